@@ -6,7 +6,7 @@ use Rattle.std.specs.Ordering.{nat_cmp, ordering_then, is_eq}
 use Rattle.std.specs.List.{find, AllByRecursion}
 use Rattle.std.proofs.lemmas.Cmp.{nat_cmp_total}
 use Rattle.clockqueue.specs.Deadlines.{Deadlines, is_of, is_set_to, moment_of, without}
-use Rattle.clockqueue.proofs.Keyed.{without_absent, without_twice, gone}
+use Rattle.clockqueue.proofs.Keyed.{without_absent, without_twice, gone, moment-with, moment-without}
 use Rattle.rrset.specs.declared.record.Key.{Key}
 use Rattle.rrset.specs.Records.{key_cmp, same_key}
 use Rattle.rrset.specs.Tables.{HasLowerOwner}
@@ -17,7 +17,8 @@ use Rattle.linkcache.specs.declared.plan.PlannedRow.{PlannedRow}
 use Rattle.linkcache.specs.declared.row.HeardRow.{HeardRow}
 use Rattle.linkcache.specs.Ends.{with_end, with_end_change}
 use Rattle.linkcache.specs.Plans.{HaveLowerKeys}
-use Rattle.linkcache.proofs.RowEnds.{ends_of, moment-changed, some-same}
+use Rattle.rrset.proofs.WithChanges.{same_key-turned}
+use Rattle.linkcache.proofs.RowEnds.{ends_of, some-same}
 
 -- a key that has a moment is found with it
 set_found : (key : Key) (moment : ℕ) (ds : Deadlines Key) → moment_of key_cmp key ds ≡ Some moment → is_some (find (is_set_to key_cmp key moment) ds) ≡ true
@@ -50,21 +51,27 @@ pub none_left : (key : Key) (ds later : Deadlines Key) → later ≡ without key
 none_left key ds later is = ap (moment_of key_cmp key) is ∙ gone key_cmp_total key ds
 
 -- the moment of the change, in place of the one that was taken out
-pub end_changed : (change : RowChange) (key : Key) (after : Option ℕ) (ds between later : Deadlines Key) → key ≡ change.key → after ≡ ends_of change.after → between ≡ without key_cmp key ds → later ≡ with_end between key after
-    → later ≡ with_end_change ds change
-end_changed change key after ds between later same after-is between-is later-is =
-    later-is ∙ (λ i. with_end (between-is i) key (after-is i)) ∙ ap (λ k. with_end (without key_cmp k ds) k (ends_of change.after)) same ∙ by change.after
+pub end_changed : (change : RowChange) (key : Key) (after : Option ℕ) (ds : Deadlines Key) → key ≡ change.key → after ≡ ends_of change.after → with_end (without key_cmp key ds) key after ≡ with_end_change ds change
+end_changed change key after ds same after-is =
+    ap (λ (o : Option ℕ). with_end (without key_cmp key ds) key o) after-is ∙ ap (λ k. with_end (without key_cmp k ds) k (ends_of change.after)) same ∙ by change.after
   where
     by : (o : Option HeardRow) → with_end (without key_cmp change.key ds) change.key (ends_of o) ≡ with_end_change ds (record change { after = o })
     by None = refl
     by (Some row) = without_twice key_cmp_total change.key row.ends ds
 
--- a change that keeps the end of its row changes no moment
-pub end_kept : (change : RowChange) (ds : Deadlines Key) → moment_of key_cmp change.key ds ≡ ends_of change.after → (query : Key) → moment_of key_cmp query ds ≡ moment_of key_cmp query (with_end_change ds change)
-end_kept change ds same query = by (same_key query change.key) refl ∙ sym (moment-changed query ds change)
+moment-ended : (q key : Key) (ds : Deadlines Key) (after : Option ℕ) → moment_of key_cmp q (with_end (without key_cmp key ds) key after) ≡ cond (same_key q key) after (moment_of key_cmp q ds)
+moment-ended q key ds None = moment-without key_cmp_total q key ds ∙ ap (λ b. cond b None (moment_of key_cmp q ds)) (same_key-turned key q)
+moment-ended q key ds (Some moment) =
+    ap (λ (l : Deadlines Key). moment_of key_cmp q l) (without_twice key_cmp_total key moment ds)
+    ∙ moment-with key_cmp_total q key moment ds
+    ∙ ap (λ b. cond b (Some moment) (moment_of key_cmp q ds)) (same_key-turned key q)
+
+-- the moment that a key has in place of itself changes none
+pub end_kept : (key : Key) (ds : Deadlines Key) (after : Option ℕ) → moment_of key_cmp key ds ≡ after → (query : Key) → moment_of key_cmp query ds ≡ moment_of key_cmp query (with_end (without key_cmp key ds) key after)
+end_kept key ds after same query = by (same_key query key) refl ∙ sym (moment-ended query key ds after)
   where
-    by : (b : Bool) → same_key query change.key ≡ b → moment_of key_cmp query ds ≡ cond b (ends_of change.after) (moment_of key_cmp query ds)
-    by true is = ap (λ k. moment_of key_cmp k ds) (same_key-same query change.key is) ∙ same
+    by : (b : Bool) → same_key query key ≡ b → moment_of key_cmp query ds ≡ cond b after (moment_of key_cmp query ds)
+    by true is = ap (λ k. moment_of key_cmp k ds) (same_key-same query key is) ∙ same
     by false is = refl
 
 pub lower_planned : (rows : List PlannedRow) → HaveLowerKeys (map (λ r. r.change) rows) → AllByRecursion (λ r. HasLowerOwner r.change.key) rows

@@ -12,6 +12,7 @@ pub mod DueRows
 pub mod NextEnd
 pub mod Numbers
 pub mod HeardSteps
+pub mod RenamedSizes
 pub mod OwnerSizes
 pub mod ShownSizes
 pub mod LeadingPlans
@@ -26,3 +27,5 @@ pub mod KeptSizes
 pub mod FlushedOver
 pub mod FlushedSets
 pub mod FirstKeys
+pub mod AlikeRows
+pub mod OneOwner

@@ -4,6 +4,7 @@
 --     reconfirmed rows key now      a row that ends soon unless it is heard again
 --     next_end rows      the least moment at which a row ends
 --     shown_rows rules rows      the records that the link shows, no TTL being greater than the cap
+--     keys_and_shown rows      the rows without their moments, of which what is shown doesn't depend
 --     names_of rules      the names under which it shows them
 --     heard_by rules rr      the record of the link that would be shown with this key, if there is one
 use Rattle.std.specs.Prelude.{ℕ, ◌+◌, ◌*◌, Bool, ◌&&◌, ◌||◌, cond, List, [], ◌∷◌, map, length, filter, fold, sum_by, min, Option, Some, None, nat_lt, nat_le, ◌==◌, if◌then◌else◌}
@@ -102,6 +103,10 @@ put_shown rules set row = elim (shown_by rules.domain rules.cap (rr_of_row row))
 
 abbrev pub shown_rows : LinkRules → LinkRows → RecordSet
 shown_rows rules rows = fold (put_shown rules) [] rows
+
+-- the rows without the moments at which they were heard and end
+abbrev pub keys_and_shown : LinkRows → RecordSet
+keys_and_shown rows = map (λ row. (row.0, row.1.shown)) rows
 
 -- the link's domain, and its reverse domains (RFC 8766, 5.4)
 abbrev pub names_of : LinkRules → List Labels

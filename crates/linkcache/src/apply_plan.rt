@@ -20,50 +20,41 @@ use clockqueue::Deadlines;
 use nametable::NameTable;
 use rrset::Key;
 
-/// Puts a row at a key, where there is room for it.
-fn put_in_room(rows: &mut NameTable<HeardRow>, key: Key, row: HeardRow)
+/// Puts a row at a key, where there is room for it, and gives the row that it had.
+fn put_in_room(rows: &mut NameTable<HeardRow>, key: Key, row: HeardRow) -> Option<HeardRow>
     requires lower { HasLowerOwner key }
     requires room { HasRoomFor (key ∷ []) rows.old.nodes }
+    ensures value { result ≡ row_at key rows.old.rows }
     ensures rows { rows.new.rows ≡ put_row key row rows.old.rows }
     ensures left { (others : List Key) → HasRoomFor (key ∷ others) rows.old.nodes → HasRoomFor others rows.new.nodes }
 {
     match rows.put(key, row) {
-        Ok(_) => {}
+        Ok(before) => before,
         Err(_) => unreachable!(),
     }
 }
 
-/// Puts or takes out the row of a key as a change has it, where there is room for it, and leaves the room of others.
-fn change_row(rows: &mut NameTable<HeardRow>, change: RowChange)
+/// Puts or takes out the row of a key as a change has it, where there is room for it, leaves the room of others, and gives
+/// the row that the key had.
+fn change_row(rows: &mut NameTable<HeardRow>, change: RowChange) -> Option<HeardRow>
     requires lower { HasLowerOwner change.key }
     requires room { HasRoomFor (keys_put (change ∷ [])) rows.old.nodes }
+    ensures value { result ≡ row_at change.key rows.old.rows }
     ensures rows { rows.new.rows ≡ with_row_change rows.old.rows change }
     ensures left { (others : List RowChange) → HasRoomFor (keys_put (change ∷ others)) rows.old.nodes → HasRoomFor (keys_put others) rows.new.nodes }
 {
     let RowChange { key, after } = change;
     match after {
         Some(row) => put_in_room(rows, key, row),
-        None => {
-            rows.remove(&key);
-        }
-    }
-}
-
-/// When the row of a key ends, if there is one.
-fn end_of(rows: &NameTable<HeardRow>, key: &Key) -> Option<u64>
-    ensures { result ≡ option_map (λ (row : HeardRow). row.ends) (row_at key.now rows.now.rows) }
-{
-    match rows.get(key) {
-        Some(row) => Some(row.ends),
-        None => None,
+        None => rows.remove(&key),
     }
 }
 
 /// When a row ends, if there is one.
-fn end_after(after: &Option<HeardRow>) -> Option<u64>
-    ensures { result ≡ option_map (λ (row : HeardRow). row.ends) after.now }
+fn end_of(row: &Option<HeardRow>) -> Option<u64>
+    ensures { result ≡ option_map (λ (row : HeardRow). row.ends) row.now }
 {
-    match after {
+    match row {
         Some(row) => Some(row.ends),
         None => None,
     }
@@ -106,30 +97,23 @@ fn same_end(before: Option<u64>, after: Option<u64>) -> bool
     }
 }
 
-/// Changes the moment of a key as a change of its row has it, where there is room for it. Nothing is moved where the
-/// row keeps its end.
-fn change_end(
-    ends: &mut Deadlines<EndKey>,
-    rows: &NameTable<HeardRow>,
-    change: &RowChange,
-    again: EndKey,
-)
-    requires again { again ≡ change.now.key }
-    requires ends { AreEnds ends.old.deadlines rows.now.rows }
+/// Changes the moment of a key from one to another, where there is room for it. Nothing is moved where the row keeps its
+/// end.
+fn change_end(ends: &mut Deadlines<EndKey>, key: EndKey, before: Option<u64>, after: Option<u64>)
+    requires before { moment_of key_cmp key ends.old.deadlines ≡ before }
     requires room { 1 ≤ ends.old.spare }
-    ensures ends { (query : Key) → moment_of key_cmp query ends.new.deadlines ≡ moment_of key_cmp query (with_end_change ends.old.deadlines change.now) }
+    ensures ends { (query : Key) → moment_of key_cmp query ends.new.deadlines ≡ moment_of key_cmp query (with_end (without key_cmp key ends.old.deadlines) key after) }
     ensures room { ends.old.spare ≤ ends.new.spare + 1 }
 {
-    let before = end_of(rows, again.key());
-    let after = end_after(&change.after);
     if same_end(before, after) {
         return;
     }
-    take_end(ends, &again, before);
-    put_end(ends, again, after);
+    take_end(ends, &key, before);
+    put_end(ends, key, after);
 }
 
-/// Makes a change of a row, and of the moment at which it ends, where there is room for both.
+/// Makes a change of a row, and of the moment at which it ends, where there is room for both. The key is looked for once:
+/// when its row ended the row tells that the change gives back.
 fn make_change(rows: &mut NameTable<HeardRow>, ends: &mut Deadlines<EndKey>, planned: PlannedRow)
     requires lower { HasLowerOwner planned.change.key }
     requires again { planned.again ≡ planned.change.key }
@@ -142,8 +126,10 @@ fn make_change(rows: &mut NameTable<HeardRow>, ends: &mut Deadlines<EndKey>, pla
     ensures end_room { ends.old.spare ≤ ends.new.spare + 1 }
 {
     let PlannedRow { change, again } = planned;
-    change_end(ends, rows, &change, again);
-    change_row(rows, change);
+    let after = end_of(&change.after);
+    let before = change_row(rows, change);
+    let ended = end_of(&before);
+    change_end(ends, again, ended, after);
 }
 
 /// Makes the changes of a plan, where there is room for all of its keys. It takes no memory, and room that was made for

@@ -3,7 +3,9 @@
 ghost use Rattle.std.specs.Prelude.{◌≡◌, ◌++◌, map, is_some, not, IfOk, OnOk};
 ghost use Rattle.std.specs.List.{AllByRecursion};
 ghost use Rattle.rrset.specs.KeyedRows.{only_rows, row_at};
+ghost use Rattle.rrset.specs.RecordSet.{changes, same_rows};
 ghost use Rattle.linkcache.specs.Plans.{change_to, moves, IsPlanBetween};
+ghost use Rattle.linkcache.specs.Rows.{keys_and_shown, shown_rows};
 ghost use Rattle.linkcache.specs.Sound.{AreLinkRows};
 
 use crate::end_key::EndKey;
@@ -11,7 +13,7 @@ use crate::plan::{HearPlan, PlannedRow, RowChange};
 use crate::row::HeardRow;
 use crate::rules::LinkRules;
 use crate::showing::shown_rows;
-use rrset::{Copied, Key, NoMemory, Table, changes};
+use rrset::{Changed, Copied, Key, NoMemory, Table, changes, same_key, same_shown};
 use std::alloc::Global;
 
 /// The change that gives a key what a part has of it.
@@ -85,6 +87,43 @@ fn planned(alloc: Global, moves: Vec<RowChange>) -> Result<Vec<PlannedRow>, NoMe
     Ok(rows)
 }
 
+/// Whether rows have the same keys, each with the same owner, TTL and rdata to the letter, so that they show the same.
+fn are_alike(first: &[(Key, HeardRow)], second: &[(Key, HeardRow)]) -> bool
+    ensures { result ≡ same_rows (keys_and_shown first.now) (keys_and_shown second.now) }
+{
+    if first.len() != second.len() {
+        return false;
+    }
+    'rows: for index in 0..first.len() {
+        let (key, row) = &first[index];
+        let (other, other_row) = &second[index];
+        if !(same_key(key, other) && same_shown(&row.shown, &other_row.shown)) {
+            return false;
+        }
+    }
+    true
+}
+
+/// What is shown otherwise of one part of a link's rows than of another. Nothing is translated where both have the same
+/// records, as where all that is heard was heard before.
+fn changes_between(
+    alloc: Global,
+    rules: &LinkRules,
+    part: &[(Key, HeardRow)],
+    work: &[(Key, HeardRow)],
+) -> Result<Vec<Changed>, NoMemory>
+    requires part { AreLinkRows rules.now part.now }
+    requires work { AreLinkRows rules.now work.now }
+    ensures { IfOk result (λ changed. changed.items ≡ changes (shown_rows rules.now part.now) (shown_rows rules.now work.now)) }
+{
+    if are_alike(part, work) {
+        return Ok(Vec::new(alloc));
+    }
+    let before = shown_rows(alloc, rules, part)?;
+    let after = shown_rows(alloc, rules, work)?;
+    changes(alloc, &before, &after)
+}
+
 /// The plan that leads from a part of a link's rows to another one.
 pub(crate) fn plan_between(
     alloc: Global,
@@ -98,9 +137,7 @@ pub(crate) fn plan_between(
     ensures usable { IfOk result (λ plan. plan.usable ≡ usable) }
     ensures between { IfOk result (IsPlanBetween rules.now part.now.rows work.now.rows) }
 {
-    let before = shown_rows(alloc, rules, part.entries())?;
-    let after = shown_rows(alloc, rules, work.entries())?;
-    let changed = changes(alloc, &before, &after)?;
+    let changed = changes_between(alloc, rules, part.entries(), work.entries())?;
     let rows = planned(alloc, moves(alloc, part, work)?)?;
     Ok(HearPlan {
         usable,

@@ -1,11 +1,14 @@
 //! Room for rows of a link: how many there may be, and how many octets of an owner.
 
-ghost use Rattle.std.specs.Prelude.{◌≡◌, ◌<◌, ◌+◌, ◌^◌, ◌||◌, true, false, length, sum_by, nat_le, IfOk, IfSome, IsTrue};
+ghost use Rattle.std.specs.Prelude.{◌≡◌, ◌≤◌, ◌<◌, ◌+◌, ◌^◌, ◌||◌, ◌==◌, true, false, length, sum_by, nat_le, IfOk, IfSome, IsTrue};
 ghost use Rattle.push_base.specs.Limits.{max_octets_at_name};
+ghost use Rattle.std.specs.List.{AllByRecursion};
+ghost use Rattle.dnsname.specs.Names.{octets, same_name};
 ghost use Rattle.rrset.specs.KeyedRows.{is_rising, row_at};
+ghost use Rattle.rrset.specs.Kinds.{a_kind, aaaa_kind};
 ghost use Rattle.rrset.specs.Records.{key_of, rr_size};
 ghost use Rattle.rrset.specs.Tables.{counted};
-ghost use Rattle.linkmap.specs.Translation.{local, renamed_rr};
+ghost use Rattle.linkmap.specs.Translation.{local, renamed, renamed_rr};
 ghost use Rattle.reversemap.specs.BothKinds.{is_used};
 ghost use Rattle.linkcache.specs.Parts.{laid};
 ghost use Rattle.linkcache.specs.Rows.{has_key, row_has_room, rr_of_row, size_under};
@@ -18,29 +21,83 @@ use crate::laying::{has, new_rows};
 use crate::row::{HeardRow, MAX_ROWS, record_of};
 use crate::rules::LinkRules;
 use dnsname::Name;
+use linkmap::ends_in_local;
 use nametable::NameTable;
 use push_base::Octets;
 use push_base::limits::MAX_OCTETS_AT_NAME;
-use rrset::{HeardRr, Key, NoMemory, Table};
+use rrset::kinds::{A, AAAA};
+use rrset::{FIXED_FIELDS, HeardRr, Key, NoMemory, Table};
 use std::alloc::Global;
 
-/// The octets of a row's record under the domain.
-fn size_of_row(alloc: Global, rules: &LinkRules, key: &Key, row: &HeardRow) -> Result<u64, NoMemory>
-    requires { IsLinkRow rules.now (key.now, row.now) }
+/// The octets of `local.` (RFC 1035, 3.1).
+const LOCAL_OCTETS: u64 = 7;
+
+/// The octets of a name with a domain in place of `local.`, if it ends in that, without making it.
+fn renamed_octets(domain: &Name, name: &Name) -> u64
+    ensures octets { result ≡ length (octets (renamed local domain.now name.now)) }
+    ensures few { result ≤ 510 }
+{
+    let octets = name.octets().len() as u64;
+    if !ends_in_local(name) {
+        return octets;
+    }
+    let grown = octets + domain.octets().len() as u64;
+    grown - LOCAL_OCTETS
+}
+
+/// Whether rdata of a kind is an address, in which no name stands.
+fn is_address(kind: u16) -> bool
+    ensures { result ≡ (kind == a_kind || kind == aaaa_kind) }
+{
+    kind == A || kind == AAAA
+}
+
+/// The octets of an address's row under the domain, under which its owner has so many. No name is made.
+fn size_of_address(rules: &LinkRules, owner: u64, key: &Key, row: &HeardRow) -> u64
+    requires address { (key.now.kind == a_kind || key.now.kind == aaaa_kind) ≡ true }
+    requires owner { owner ≡ length (octets (renamed local rules.now.domain row.now.shown.owner)) }
+    requires few { owner ≤ 510 }
+    ensures { result ≡ rr_size (renamed_rr local rules.now.domain (rr_of_row (key.now, row.now))) }
+{
+    let rdata = row.shown.rdata.as_slice().len() as u64;
+    owner + FIXED_FIELDS + rdata
+}
+
+/// The octets of a row's record under the domain, under which its owner has so many.
+fn size_of_row(
+    alloc: Global,
+    rules: &LinkRules,
+    owner: u64,
+    key: &Key,
+    row: &HeardRow,
+) -> Result<u64, NoMemory>
+    requires row { IsLinkRow rules.now (key.now, row.now) }
+    requires owner { owner ≡ length (octets (renamed local rules.now.domain row.now.shown.owner)) }
+    requires few { owner ≤ 510 }
     ensures { IfOk result (λ size. size ≡ rr_size (renamed_rr local rules.now.domain (rr_of_row (key.now, row.now)))) }
 {
+    if is_address(key.kind) {
+        return Ok(size_of_address(rules, owner, key, row));
+    }
     let rr = record_of(key, row)?;
     translated_size(alloc, rules, &rr)
 }
 
-/// The octets of some rows' records under the domain.
-fn size_under(alloc: Global, rules: &LinkRules, rows: &[(Key, HeardRow)]) -> Result<u64, NoMemory>
-    requires { AreLinkRows rules.now rows.now }
+/// The octets of the records under the domain of some rows of an owner, whose own octets are counted once.
+fn size_under(
+    alloc: Global,
+    rules: &LinkRules,
+    owner: &Name,
+    rows: &[(Key, HeardRow)],
+) -> Result<u64, NoMemory>
+    requires rows { AreLinkRows rules.now rows.now }
+    requires owner { AllByRecursion (λ row. IsTrue (same_name owner.now row.0.owner)) rows.now }
     ensures { IfOk result (λ size. size ≡ counted (sum_by (λ row. rr_size (renamed_rr local rules.now.domain (rr_of_row row))) rows.now)) }
 {
+    let octets = renamed_octets(&rules.domain, owner);
     let mut size: u64 = 0;
     'rows: for (key, row) in rows {
-        size = size.saturating_add(size_of_row(alloc, rules, key, row)?);
+        size = size.saturating_add(size_of_row(alloc, rules, octets, key, row)?);
     }
     Ok(size)
 }
@@ -59,9 +116,9 @@ fn size_at(
     ensures { IfOk result (λ size. size ≡ counted (size_under rules.now owner.now (laid over.now.rows rows.now.rows))) }
 {
     let _ = over.entries();
-    let there = size_under(alloc, rules, rows.at(owner))?;
+    let there = size_under(alloc, rules, owner, rows.at(owner))?;
     let new = new_rows(alloc, rows, over.at(owner))?;
-    let added = size_under(alloc, rules, &new)?;
+    let added = size_under(alloc, rules, owner, &new)?;
     Ok(there.saturating_add(added))
 }
 

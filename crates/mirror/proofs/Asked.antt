@@ -20,7 +20,7 @@ use Rattle.dsotlv.specs.Notices.{added_by, applied, applied_all, removed_by}
 use Rattle.dsotlv.specs.declared.message.Notice.{Notice}
 use Rattle.dsotlv.specs.declared.message.Notice.TheVariants.{Add, RemoveOne, RemoveSet, RemoveClass, RemoveAll, Odd}
 use Rattle.mirror.specs.Held.{Held, AsksFor, AreAsked, applied_to, begun, ended, is_of}
-use Rattle.mirror.specs.Changes.{asks_for, owner_of}
+use Rattle.mirror.specs.Changes.{owner_of}
 
 -- ---- keys for which a question asks
 
@@ -56,7 +56,8 @@ other_owner question owner key other asked = by (same_name owner key.owner) refl
     by false is = refl
 
 -- a record tells without its key whether a question asks for that
-pub by_its_key : (question : Question) (rr : Rr) → matches question (key_of rr) ≡ asks_for question rr
+pub by_its_key : (question : Question) (rr : Rr)
+    → matches question (key_of rr) ≡ (same_name question.name rr.owner && (question.kind == rr.kind || question.kind == any_kind) && (question.class == rr.class || question.class == any_class))
 by_its_key question rr =
     ap (λ (b : Bool). b && (question.kind == rr.kind || question.kind == any_kind) && (question.class == rr.class || question.class == any_class))
     (ap (λ (l : Labels). bytes_eq (octets (lower question.name)) (octets l)) (lower-twice rr.owner))

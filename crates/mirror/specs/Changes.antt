@@ -1,9 +1,9 @@
 -- What notices change in a set by a key, made of them beforehand, and what they take out besides. The set has keys alone
 -- for which its question asks.
 --     owner_of notice      the owner that it names
---     asks_for question rr      whether a question asks for the key of a record, told without the key
+--     has_change question notice      whether a notice changes something by a key in the set of a question
+--     change_by notice      what a notice changes by a key, where a question asks for that
 --     change_of question notice      what a notice changes by a key in the set of a question
---     has_change question notice      whether it changes something by a key
 --     changes_of question notices      what several change by keys
 --     changed set change      the set behind a change
 --     remains question notice set      the set without what a notice takes out but by a key
@@ -14,14 +14,12 @@
 --     performed question notices changes set      the set behind notices
 --     Fits change      a key that is put is in lower case
 --     is_put, room_of, room_for      whether a change puts a key; how many keys a change puts, and how many several put
-use Rattle.std.specs.Prelude.{⊤, ℕ, Bool, true, false, ◌&&◌, ◌||◌, ◌==◌, List, [], ◌∷◌, length, filter, Option, None, Some, if◌then◌else◌}
+use Rattle.std.specs.Prelude.{⊤, ℕ, Bool, true, false, List, [], ◌∷◌, length, filter, Option, None, Some, if◌then◌else◌}
 use Rattle.std.specs.List.{filter_map}
 use Rattle.dnsname.specs.Names.{Labels, same_name}
-use Rattle.rrset.specs.Kinds.{any_kind, any_class}
-use Rattle.rrset.specs.Records.{key_of, shown_of, same_key}
+use Rattle.rrset.specs.Records.{key_of, matches, shown_of, same_key}
 use Rattle.rrset.specs.RecordSet.{RecordSet, put, without}
 use Rattle.rrset.specs.Tables.{HasLowerOwner}
-use Rattle.rrset.specs.declared.record.Rr.{Rr}
 use Rattle.rrset.specs.declared.record.Question.{Question}
 use Rattle.dsotlv.specs.Notices.{removed_by}
 use Rattle.dsotlv.specs.declared.message.Notice.{Notice}
@@ -37,24 +35,24 @@ owner_of (RemoveClass owner class) = owner
 owner_of (RemoveAll owner) = owner
 owner_of (Odd owner ttl) = owner
 
-abbrev pub asks_for : Question → Rr → Bool
-asks_for question rr = same_name question.name rr.owner && (question.kind == rr.kind || question.kind == any_kind) && (question.class == rr.class || question.class == any_class)
-
-abbrev pub change_of : Question → Notice → Option Change
-change_of question (Add rr) = if asks_for question rr then Some (Put (key_of rr) (shown_of rr)) else None
-change_of question (RemoveOne rr) = if asks_for question rr then Some (Take (key_of rr)) else None
-change_of question (RemoveSet owner class kind) = None
-change_of question (RemoveClass owner class) = None
-change_of question (RemoveAll owner) = None
-change_of question (Odd owner ttl) = None
-
 abbrev pub has_change : Question → Notice → Bool
-has_change question (Add rr) = asks_for question rr
-has_change question (RemoveOne rr) = asks_for question rr
+has_change question (Add rr) = matches question (key_of rr)
+has_change question (RemoveOne rr) = matches question (key_of rr)
 has_change question (RemoveSet owner class kind) = false
 has_change question (RemoveClass owner class) = false
 has_change question (RemoveAll owner) = false
 has_change question (Odd owner ttl) = false
+
+abbrev pub change_by : Notice → Option Change
+change_by (Add rr) = Some (Put (key_of rr) (shown_of rr))
+change_by (RemoveOne rr) = Some (Take (key_of rr))
+change_by (RemoveSet owner class kind) = None
+change_by (RemoveClass owner class) = None
+change_by (RemoveAll owner) = None
+change_by (Odd owner ttl) = None
+
+abbrev pub change_of : Question → Notice → Option Change
+change_of question notice = if has_change question notice then change_by notice else None
 
 abbrev pub changes_of : Question → List Notice → List Change
 changes_of question notices = filter_map (change_of question) notices

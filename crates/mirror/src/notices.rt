@@ -5,10 +5,11 @@ ghost use Rattle.std.specs.List.{AllByRecursion};
 ghost use Rattle.std.specs.Vec.Iter.{into_iter_items};
 ghost use Rattle.dsotlv.specs.Notices.{removed_by};
 ghost use Rattle.dsotlv.specs.declared.message.Notice.TheVariants as notices;
-ghost use Rattle.rrset.specs.Records.{shown_of};
+ghost use Rattle.rrset.specs.Records.{key_of, matches, shown_of};
 ghost use Rattle.rrset.specs.RecordSet.{without};
 ghost use Rattle.mirror.specs.Held.{AreAsked, applied_to, held_of};
-ghost use Rattle.mirror.specs.Changes.{asks_for, change_of, changed, changes_of, has_change, is_put, owner_of, remains};
+ghost use Rattle.mirror.specs.Changes.{change_by, change_of, changed, changes_of, has_change, is_put, owner_of, remains};
+ghost use Rattle.mirror.specs.declared.notices.Change.TheVariants as changes;
 ghost use Rattle.mirror.specs.Changes.{behind, left_of, performed, room_for, room_of, Fits};
 
 use crate::NoMemory;
@@ -40,53 +41,17 @@ fn shown_of(rr: &Rr) -> Result<Shown, NoMemory>
 }
 
 /// Whether a question asks for the key of a record, told without the key.
+#[tactic(auto, using(crate::proofs::Asked::by_its_key))]
 fn asks_for(question: &Question, rr: &Rr) -> bool
-    ensures { result ≡ asks_for question.now rr.now }
+    ensures { result ≡ matches question.now (key_of rr.now) }
 {
     question.name.same(&rr.owner)
         && (question.kind == rr.kind || question.kind == ANY)
         && (question.class == rr.class || question.class == classes::ANY)
 }
 
-/// What adding a record changes in the set of a question.
-fn addition(question: &Question, rr: &Rr) -> Result<Option<Change>, NoMemory>
-    ensures { IfOk result (λ change. change ≡ change_of question.now (notices.Add rr.now)) }
-{
-    if !asks_for(question, rr) {
-        return Ok(None);
-    }
-    let key = rr.key()?;
-    let shown = shown_of(rr)?;
-    Ok(Some(Change::Put(key, shown)))
-}
-
-/// What taking out a record changes in the set of a question, which has no key for which the question doesn't ask.
-fn removal(question: &Question, rr: &Rr) -> Result<Option<Change>, NoMemory>
-    ensures { IfOk result (λ change. change ≡ change_of question.now (notices.RemoveOne rr.now)) }
-{
-    if !asks_for(question, rr) {
-        return Ok(None);
-    }
-    let key = rr.key()?;
-    Ok(Some(Change::Take(key)))
-}
-
-/// What a notice changes by a key in the set of a question: a key is one for which at most four questions ask. What
-/// else a notice takes out is found without memory.
-fn change_of(question: &Question, notice: &Notice) -> Result<Option<Change>, NoMemory>
-    ensures { IfOk result (λ change. change ≡ change_of question.now notice.now) }
-{
-    match notice {
-        Notice::Add(rr) => addition(question, rr),
-        Notice::RemoveOne(rr) => removal(question, rr),
-        Notice::RemoveSet(_, _, _)
-        | Notice::RemoveClass(_, _)
-        | Notice::RemoveAll(_)
-        | Notice::Odd(_, _) => Ok(None),
-    }
-}
-
-/// Whether a notice changes something by a key in the set of a question.
+/// Whether a notice changes something by a key in the set of a question, which has no key for which the question
+/// doesn't ask.
 fn has_change(question: &Question, notice: &Notice) -> bool
     ensures { result ≡ has_change question.now notice.now }
 {
@@ -97,6 +62,40 @@ fn has_change(question: &Question, notice: &Notice) -> bool
         | Notice::RemoveAll(_)
         | Notice::Odd(_, _) => false,
     }
+}
+
+/// What adding a record changes, where a question asks for its key.
+fn addition(rr: &Rr) -> Result<Change, NoMemory>
+    ensures { IfOk result (λ change. change ≡ changes.Put (key_of rr.now) (shown_of rr.now)) }
+{
+    let key = rr.key()?;
+    let shown = shown_of(rr)?;
+    Ok(Change::Put(key, shown))
+}
+
+/// What a notice changes by a key, where a question asks for that. What else a notice takes out is found without
+/// memory.
+fn change_by(notice: &Notice) -> Result<Option<Change>, NoMemory>
+    ensures { IfOk result (λ change. change ≡ change_by notice.now) }
+{
+    match notice {
+        Notice::Add(rr) => Ok(Some(addition(rr)?)),
+        Notice::RemoveOne(rr) => Ok(Some(Change::Take(rr.key()?))),
+        Notice::RemoveSet(_, _, _)
+        | Notice::RemoveClass(_, _)
+        | Notice::RemoveAll(_)
+        | Notice::Odd(_, _) => Ok(None),
+    }
+}
+
+/// What a notice changes by a key in the set of a question: a key is one for which at most four questions ask.
+fn change_of(question: &Question, notice: &Notice) -> Result<Option<Change>, NoMemory>
+    ensures { IfOk result (λ change. change ≡ change_of question.now notice.now) }
+{
+    if !has_change(question, notice) {
+        return Ok(None);
+    }
+    change_by(notice)
 }
 
 /// What notices change by keys in the set of a question, in order.

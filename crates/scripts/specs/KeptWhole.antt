@@ -119,7 +119,7 @@ may_follow_kept alone known (carry w name written) = known.has_far && is_hub_cli
 
 -- a draft holds what the lines so far have made of both hubs, and for which of them each line is that happens
 pub record HoldsWhole (draft : WholeDraft) (so_far : WholeSoFar) : Type 0 where
-  pub all : so_far.all ≡ words_of draft.clients.items
+  pub all : so_far.all ≡ draft.clients
   pub carriers : carries_alone so_far.carriers ≡ alone_in draft.carriers
   pub known : so_far.known ≡ known_kept draft
   pub fars : so_far.known.fars ≡ fars_of [] so_far.lines
@@ -142,12 +142,12 @@ with_turn items turn = items ++ option_to_list turn
 -- each hub's draft took a line, and that is the turn, if the line happens; or one of them may not stand there
 abbrev pub TakesHalves : WholeDraft → Line → Line → Option Turn → WholeDraft → Bool → Type 0
 TakesHalves draft near far turn later true =
-    TakesLine (words_of draft.clients.items) draft.near near later.near true
-    × TakesLine (words_of draft.clients.items) draft.far far later.far true
+    TakesLine draft.clients draft.near near later.near true
+    × TakesLine draft.clients draft.far far later.far true
     × (later.turns.items ≡ with_turn draft.turns.items turn)
     × (later ≡ record draft { near = later.near; far = later.far; turns = later.turns })
 TakesHalves draft near far turn later false =
-    (may_stand (words_of draft.clients.items) (known_of (taken_of draft.near)) (said near) && may_stand (words_of draft.clients.items) (known_of (taken_of draft.far)) (said far)) ≡ false
+    (may_stand draft.clients (known_of (taken_of draft.near)) (said near) && may_stand draft.clients (known_of (taken_of draft.far)) (said far)) ≡ false
 
 -- the zone of the second hub
 abbrev pub with_apex : WholeDraft → Labels → WholeDraft

@@ -41,7 +41,8 @@ pub(crate) fn open_line(alloc: Global, text: &[u8]) -> Result<Option<Line>, NoMe
     Ok(Some(Line::Event(EventLine::Client { word, event })))
 }
 
-/// What follows the first word of a line that lets octets go from a client onto the wire: the client's word, and how many.
+/// What follows the first word of a line that lets octets go from a client onto the wire: the client's word, and how
+/// many.
 pub(crate) fn say_line(alloc: Global, text: &[u8]) -> Result<Option<Line>, NoMemory>
     ensures exact { IfOk result (λ found. option_map (λ l. said l) found ≡ of_word_and_number (λ w n. client_passing w (Way.Say n)) (words_in text.now)) }
 {
@@ -52,7 +53,8 @@ pub(crate) fn say_line(alloc: Global, text: &[u8]) -> Result<Option<Line>, NoMem
     Ok(Some(Line::Event(EventLine::Passing { word, way })))
 }
 
-/// What follows the first word of a line that lets octets go from the wire into a session: the client's word, and how many.
+/// What follows the first word of a line that lets octets go from the wire into a session: the client's word, and how
+/// many.
 pub(crate) fn up_line(alloc: Global, text: &[u8]) -> Result<Option<Line>, NoMemory>
     ensures exact { IfOk result (λ found. option_map (λ l. said l) found ≡ of_word_and_number (λ w n. client_passing w (Way.Up n)) (words_in text.now)) }
 {
@@ -63,7 +65,8 @@ pub(crate) fn up_line(alloc: Global, text: &[u8]) -> Result<Option<Line>, NoMemo
     Ok(Some(Line::Event(EventLine::Passing { word, way })))
 }
 
-/// What follows the first word of a line that lets octets go from a session onto the wire: the client's word, and how many.
+/// What follows the first word of a line that lets octets go from a session onto the wire: the client's word, and how
+/// many.
 pub(crate) fn emit_line(alloc: Global, text: &[u8]) -> Result<Option<Line>, NoMemory>
     ensures exact { IfOk result (λ found. option_map (λ l. said l) found ≡ of_word_and_number (λ w n. client_passing w (Way.Emit n)) (words_in text.now)) }
 {
@@ -74,7 +77,8 @@ pub(crate) fn emit_line(alloc: Global, text: &[u8]) -> Result<Option<Line>, NoMe
     Ok(Some(Line::Event(EventLine::Passing { word, way })))
 }
 
-/// What follows the first word of a line that lets octets go from the wire to a client: the client's word, and how many.
+/// What follows the first word of a line that lets octets go from the wire to a client: the client's word, and how
+/// many.
 pub(crate) fn down_line(alloc: Global, text: &[u8]) -> Result<Option<Line>, NoMemory>
     ensures exact { IfOk result (λ found. option_map (λ l. said l) found ≡ of_word_and_number (λ w n. client_passing w (Way.Down n)) (words_in text.now)) }
 {
@@ -129,8 +133,8 @@ pub(crate) fn feed_line(alloc: Global, text: &[u8]) -> Result<Option<Line>, NoMe
     Ok(Some(Line::Event(EventLine::Client { word, event })))
 }
 
-/// What follows the first word of a line that doubts a record: the client's word, the record's name, TYPE and CLASS, and
-/// its RDATA.
+/// What follows the first word of a line that doubts a record: the client's word, the record's name, TYPE and CLASS,
+/// and its RDATA.
 pub(crate) fn reconfirm_line(alloc: Global, text: &[u8]) -> Result<Option<Line>, NoMemory>
     ensures exact { IfOk result (λ found. option_map (λ l. said l) found ≡ reconfirm_line (words_in text.now)) }
 {

@@ -4,9 +4,10 @@ ghost use Rattle.std.specs.Prelude.{◌≡◌, ◌||◌, Some, false, map, optio
 ghost use Rattle.std.specs.Str.{bytes_eq};
 ghost use Rattle.scripts.specs.Scripts.{is_among, is_peer, is_client_in, is_hub_client_in, is_lone_client_in, may_happen_to, may_meet};
 ghost use Rattle.scripts.specs.KeptLines.{words_of};
-ghost use Rattle.scripts.specs.Events.{known_clients, words_known};
+ghost use Rattle.scripts.specs.Events.{known_clients};
 ghost use Rattle.scripts.specs.Drafts.{client_in, is_any_word, is_word};
 
+use crate::all_words::Words;
 use crate::client_list::Clients;
 use crate::line::{ClientEvent, SessionEvent};
 use crate::line_words::plain_word;
@@ -48,28 +49,28 @@ pub(crate) fn may_happen_to(clients: &Clients, word: &[u8], event: &ClientEvent)
 }
 
 /// Whether that may happen to the session of a word, where these are the words of all clients of the script.
-pub(crate) fn may_meet(all: &[String], clients: &Clients, word: &[u8], event: &SessionEvent) -> bool
-    ensures { result ≡ may_meet (map (λ w. string_bytes w) all.now) (known_clients clients.now) word.now event.now }
+pub(crate) fn may_meet(all: &Words, clients: &Clients, word: &[u8], event: &SessionEvent) -> bool
+    ensures { result ≡ may_meet all.now (known_clients clients.now) word.now event.now }
 {
     match event {
-        SessionEvent::Send(_) => !is_among(all, word),
+        SessionEvent::Send(_) => !all.has(word),
         SessionEvent::Stop { .. } => may_be_stopped(all, clients, word),
         SessionEvent::Cut => may_be_cut(all, clients, word),
     }
 }
 
 // Whether a word is that of a client that there is, or of a peer.
-fn may_be_cut(all: &[String], clients: &Clients, word: &[u8]) -> bool
-    ensures { result ≡ (is_client_in (known_clients clients.now) word.now || is_peer (map (λ w. string_bytes w) all.now) word.now) }
+fn may_be_cut(all: &Words, clients: &Clients, word: &[u8]) -> bool
+    ensures { result ≡ (is_client_in (known_clients clients.now) word.now || is_peer all.now word.now) }
 {
-    is_known(clients, word) || !is_among(all, word)
+    is_known(clients, word) || !all.has(word)
 }
 
 // Whether a word is that of a client of the hub, or of a peer.
-fn may_be_stopped(all: &[String], clients: &Clients, word: &[u8]) -> bool
-    ensures { result ≡ (is_hub_client_in (known_clients clients.now) word.now || is_peer (map (λ w. string_bytes w) all.now) word.now) }
+fn may_be_stopped(all: &Words, clients: &Clients, word: &[u8]) -> bool
+    ensures { result ≡ (is_hub_client_in (known_clients clients.now) word.now || is_peer all.now word.now) }
 {
-    is_hub_client(clients, word) || !is_among(all, word)
+    is_hub_client(clients, word) || !all.has(word)
 }
 
 /// Whether a word is that of a client that there is.
@@ -97,13 +98,6 @@ fn is_lone_client(clients: &Clients, word: &[u8]) -> bool
         None => false,
         Some(is_lone) => is_lone,
     }
-}
-
-/// The number of the client of a word, counted from 0.
-pub(crate) fn client_of(clients: &Clients, word: &[u8]) -> Option<usize>
-    ensures { result ≡ position (bytes_eq word.now) (words_known (known_clients clients.now)) }
-{
-    clients.place(word)
 }
 
 /// Whether a word is among others.

@@ -7,8 +7,9 @@ ghost use Rattle.scripts.specs.KeptLines.{words_of};
 ghost use Rattle.scripts.specs.Events.{known_clients};
 ghost use Rattle.scripts.specs.Drafts.{IsParty, Numbered};
 
+use crate::all_words::Words;
 use crate::client_list::Clients;
-use crate::clients::{client_of, may_happen_to, may_meet, place_among};
+use crate::clients::{may_happen_to, may_meet, place_among};
 use crate::line::{Call, ClientEvent, EventLine, HubEvent, LinkEvent, SessionEvent, Way};
 
 /// Whose session it is.
@@ -42,12 +43,12 @@ pub enum Event {
 /// The event of a line, if its word, where it has one, may stand there: a peer has a word that no client has anywhere,
 /// and a client or a link that is spoken of is one that there is.
 pub(crate) fn event_of(
-    all: &[String],
+    all: &Words,
     links: &[String],
     clients: &Clients,
     line: EventLine,
 ) -> Option<Event>
-    ensures { Numbered (words_of all.now) (words_of links.now) (known_clients clients.now) line result }
+    ensures { Numbered all.now (words_of links.now) (known_clients clients.now) line result }
 {
     match line {
         EventLine::Hub(event) => Some(Event::Hub(event)),
@@ -71,7 +72,7 @@ fn on_link(links: &[String], word: String, event: LinkEvent) -> Option<Event>
 fn call_of(clients: &Clients, word: String, call: Call) -> Option<Event>
     ensures { (all links : List Word) → Numbered all links (known_clients clients.now) (event_lines.Call word call) result }
 {
-    let client = client_of(clients, word.as_bytes())?;
+    let client = clients.place(word.as_bytes())?;
     Some(Event::Call { client, call })
 }
 
@@ -79,7 +80,7 @@ fn call_of(clients: &Clients, word: String, call: Call) -> Option<Event>
 fn passing_of(clients: &Clients, word: String, way: Way) -> Option<Event>
     ensures { (all links : List Word) → Numbered all links (known_clients clients.now) (event_lines.Passing word way) result }
 {
-    let client = client_of(clients, word.as_bytes())?;
+    let client = clients.place(word.as_bytes())?;
     Some(Event::Passing { client, way })
 }
 
@@ -87,7 +88,7 @@ fn passing_of(clients: &Clients, word: String, way: Way) -> Option<Event>
 fn to_client(clients: &Clients, word: String, event: ClientEvent) -> Option<Event>
     ensures { (all links : List Word) → Numbered all links (known_clients clients.now) (event_lines.Client word event) result }
 {
-    let client = client_of(clients, word.as_bytes())?;
+    let client = clients.place(word.as_bytes())?;
     if !may_happen_to(clients, word.as_bytes(), &event) {
         return None;
     }
@@ -95,8 +96,8 @@ fn to_client(clients: &Clients, word: String, event: ClientEvent) -> Option<Even
 }
 
 // What happens to the session of a word, if it may.
-fn to_session(all: &[String], clients: &Clients, word: String, event: SessionEvent) -> Option<Event>
-    ensures { (links : List Word) → Numbered (words_of all.now) links (known_clients clients.now) (event_lines.Session word event) result }
+fn to_session(all: &Words, clients: &Clients, word: String, event: SessionEvent) -> Option<Event>
+    ensures { (links : List Word) → Numbered all.now links (known_clients clients.now) (event_lines.Session word event) result }
 {
     if !may_meet(all, clients, word.as_bytes(), &event) {
         return None;
@@ -109,7 +110,7 @@ fn to_session(all: &[String], clients: &Clients, word: String, event: SessionEve
 fn party_of(clients: &Clients, word: String) -> Party
     ensures { IsParty (known_clients clients.now) (string_bytes word) result }
 {
-    match client_of(clients, word.as_bytes()) {
+    match clients.place(word.as_bytes()) {
         Some(client) => Party::Client(client),
         None => Party::Peer(word),
     }

@@ -35,8 +35,8 @@ impl Model for HeadHomes {
     ghost invariant = { λ h. AreNamed (record { homes = h.homes; words = words_of h.words.items }) };
 }
 
-// One word more, for which room was made.
-fn push_word(words: &mut Vec<String>, word: String)
+/// One word more, for which room was made.
+pub(crate) fn push_word(words: &mut Vec<String>, word: String)
     requires { vec_len words.old < vec_capacity words.old }
     ensures { words_of words.new.items ≡ words_of words.old.items ++ string_bytes word ∷ [] }
 {

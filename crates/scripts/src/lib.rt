@@ -2,6 +2,7 @@
 //! program that was given one ends.
 #![tactic(auto)]
 
+mod all_words;
 mod client_list;
 mod client_readers;
 mod clients;

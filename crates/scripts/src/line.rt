@@ -32,7 +32,8 @@ pub struct ZoneLine {
     pub writable: bool,
 }
 
-/// A link line: the link's word, the domain under which it is shown, and the greatest TTL that its records are shown with.
+/// A link line: the link's word, the domain under which it is shown, and the greatest TTL that its records are shown
+/// with.
 #[derive(Debug, Drop)]
 pub struct LinkLine {
     /// The link's word.
@@ -43,8 +44,8 @@ pub struct LinkLine {
     pub cap: u32,
 }
 
-/// A reverse line: the word of a link that a line before it names, and the domain under which the link maps addresses back
-/// to names.
+/// A reverse line: the word of a link that a line before it names, and the domain under which the link maps addresses
+/// back to names.
 #[derive(Debug, Drop)]
 pub struct ReverseLine {
     /// The link's word.

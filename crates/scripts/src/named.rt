@@ -2,11 +2,11 @@
 
 ghost use Rattle.std.specs.Prelude.{◌≡◌, ◌++◌, ◌∷◌, [], List, IfOk, OnOk, option_copied, option_map, option_to_list, string_bytes};
 ghost use Rattle.scripts.specs.Lines.{words_in};
-ghost use Rattle.scripts.specs.KeptLines.{words_of};
 ghost use Rattle.scripts.specs.KeptWhole.{carrier_kept, carrier_in, carrier_named, made_in};
 ghost use Rattle.scripts.specs.Carrying.{alone_in, carried_too, is_alone};
 ghost use Rattle.scripts.specs.WholeScripts.{Carrier as Plain, all_made, all_carried, carries_alone};
 
+use crate::all_words::Words;
 use crate::clients::client_in;
 use crate::line_words::plain_word;
 use crate::text_lines::{is_outside, is_too_long, split_line};
@@ -96,18 +96,18 @@ fn is_carried_alone(carrying: Option<&Carrying>, word: &[u8]) -> bool
 #[derive(Drop)]
 pub(crate) struct AllNamed {
     /// The words of all its clients, of both hubs and lone ones, in the order of their lines.
-    pub clients: Vec<String>,
+    pub clients: Words,
     /// The clients that carry names.
     pub carriers: Carriers,
 }
 
 /// What a script names anywhere, each line by itself.
 pub(crate) fn all_named(alloc: Global, octets: &[u8]) -> Result<AllNamed, NoMemory>
-    ensures clients { IfOk result (λ named. words_of named.clients.items ≡ all_made octets.now) }
+    ensures clients { IfOk result (λ named. named.clients ≡ all_made octets.now) }
     ensures carriers { IfOk result (λ named. alone_in named.carriers ≡ carries_alone (all_carried octets.now)) }
 {
     let too_long = is_too_long(octets);
-    let mut clients = Vec::new(alloc);
+    let mut clients = Words::new(alloc);
     let mut carriers = Carriers::new(alloc);
     let mut rest = octets;
     'lines: while !rest.is_empty() {
@@ -123,14 +123,11 @@ pub(crate) fn all_named(alloc: Global, octets: &[u8]) -> Result<AllNamed, NoMemo
 }
 
 // Adds the word of the client that a line names, if it names one.
-fn add_client(alloc: Global, line: &[u8], words: &mut Vec<String>) -> Result<(), NoMemory>
-    ensures { OnOk result (words_of words.new.items ≡ words_of words.old.items ++ option_to_list (made_in line.now)) }
+fn add_client(alloc: Global, line: &[u8], words: &mut Words) -> Result<(), NoMemory>
+    ensures { OnOk result (words.new ≡ words.old ++ option_to_list (made_in line.now)) }
 {
     match made_in(alloc, line)? {
-        Some(word) => {
-            words.push(word)?;
-            Ok(())
-        }
+        Some(word) => words.add(word),
         None => Ok(()),
     }
 }

@@ -4,6 +4,7 @@ ghost use Rattle.std.specs.Prelude.{◌≡◌, ◌∷◌, ◌++◌, [], List, On
 ghost use Rattle.std.specs.Str.{bytes_eq};
 ghost use Rattle.scripts.specs.Lines.{Word};
 ghost use Rattle.scripts.specs.Places.{ArePlaces, place_in};
+ghost use Rattle.scripts.specs.Scripts.{is_among};
 
 use push_base::NoMemory;
 use std::alloc::Global;
@@ -26,6 +27,16 @@ pub(crate) fn place_of(places: &Places, word: &[u8]) -> Option<usize>
     match places.get(word) {
         Some(place) => Some(*place),
         None => None,
+    }
+}
+
+/// Whether a word has a place.
+pub(crate) fn has_place(places: &Places, word: &[u8]) -> bool
+    ensures { (words : List Word) → ArePlaces words places.now → result ≡ is_among words word.now }
+{
+    match place_of(places, word) {
+        Some(_) => true,
+        None => false,
     }
 }
 

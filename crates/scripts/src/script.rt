@@ -10,6 +10,7 @@ ghost use Rattle.scripts.specs.Scripts.{is_client_in, is_hub_client_in};
 ghost use Rattle.scripts.specs.KeptLines.{words_of};
 ghost use Rattle.scripts.specs.Drafts.{TakesLine, taken_of, nothing_taken};
 
+use crate::all_words::Words;
 use crate::client_list::Clients;
 use crate::clients::{KnownClient, is_hub_client, is_known, place_among};
 use crate::event::{Event, event_of};
@@ -63,6 +64,19 @@ impl Draft {
     /// Takes a further line, where it may stand behind those before it, in a script that has clients of these words.
     pub fn take(&mut self, alloc: Global, line: Line, clients: &[String]) -> Result<bool, NoMemory>
         ensures { IfOk result (λ taken. TakesLine (map (λ w. string_bytes w) clients.now) self.old line self.new taken) }
+    {
+        let clients = Words::copied(alloc, clients)?;
+        self.take_among(alloc, line, &clients)
+    }
+
+    /// Takes a further line, where it may stand behind those before it, in a script that has clients of these words.
+    pub(crate) fn take_among(
+        &mut self,
+        alloc: Global,
+        line: Line,
+        clients: &Words,
+    ) -> Result<bool, NoMemory>
+        ensures { IfOk result (λ taken. TakesLine clients.now self.old line self.new taken) }
     {
         match line {
             Line::Silent => Ok(true),
@@ -120,8 +134,8 @@ impl Draft {
     }
 
     // Takes a further event, if its word, where it has one, may stand there.
-    fn take_event(&mut self, line: EventLine, clients: &[String]) -> Result<bool, NoMemory>
-        ensures { IfOk result (λ taken. TakesLine (map (λ w. string_bytes w) clients.now) self.old (lines.Event line) self.new taken) }
+    fn take_event(&mut self, line: EventLine, clients: &Words) -> Result<bool, NoMemory>
+        ensures { IfOk result (λ taken. TakesLine clients.now self.old (lines.Event line) self.new taken) }
     {
         match event_of(clients, self.homes.words(), &self.clients, line) {
             None => Ok(false),

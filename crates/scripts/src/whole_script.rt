@@ -1,5 +1,5 @@
-//! Scripts that may have a second hub: to each hub such a script is one of one hub, and each line goes to the hub, or to
-//! both, that it concerns.
+//! Scripts that may have a second hub: to each hub such a script is one of one hub, and each line goes to the hub, or
+//! to both, that it concerns.
 
 ghost use Rattle.std.specs.Prelude.{◌≡◌, ◌==◌, ◌&&◌, ◌∷◌, [], true, false, not, length, None, is_some, IfOk, IfSome, IfNone, option_to_list, string_bytes, if◌then◌else◌};
 ghost use Rattle.scripts.specs.Lines.{head_line, show};
@@ -12,6 +12,7 @@ ghost use Rattle.scripts.specs.WholeLines.{all_at, is_far_in, is_of_both, is_tim
 ghost use Rattle.scripts.specs.WholeScripts.{WholeSoFar, may_follow_one, whole_step};
 ghost use Rattle.scripts.specs.declared.line.Line.TheVariants as lines;
 
+use crate::all_words::Words;
 use crate::line::{ClientEvent, EventLine, HeadLine, HubEvent, Line, ZoneLine};
 use crate::named::{AllNamed, Carriers, all_named};
 use crate::script::{Draft, Script};
@@ -66,7 +67,7 @@ struct WholeDraft {
     far: Draft,
     apex: Option<Name>,
     turns: Vec<Turn>,
-    clients: Vec<String>,
+    clients: Words,
     carriers: Carriers,
 }
 
@@ -176,10 +177,10 @@ impl WholeDraft {
     ) -> Result<bool, NoMemory>
         ensures { IfOk result (λ taken. TakesHalves self.old near far turn self.new taken) }
     {
-        if !self.near.take(alloc, near, &self.clients)? {
+        if !self.near.take_among(alloc, near, &self.clients)? {
             return Ok(false);
         }
-        if !self.far.take(alloc, far, &self.clients)? {
+        if !self.far.take_among(alloc, far, &self.clients)? {
             return Ok(false);
         }
         if let Some(turn) = turn {
@@ -226,8 +227,8 @@ impl WholeDraft {
         self.apex.is_some() && is_new
     }
 
-    // Whether a client may carry a name: where there is a second hub, a client of the first, if no other client carries the
-    // name.
+    // Whether a client may carry a name: where there is a second hub, a client of the first, if no other client carries
+    // the name.
     fn may_carry(&self, word: &[u8], name: &Name) -> bool
         ensures { result ≡ (is_some self.now.apex && is_hub_client_in (taken_of self.now.near).clients word.now && alone_in self.now.carriers word.now name.now) }
     {

@@ -1,6 +1,6 @@
 -- The first place of each word, behind a further word, and what the client at a place is.
-use Rattle.std.proofs.Common.{◌≡◌, ℕ, suc, Bool, true, false, cond, Option, None, Some, List, [], ◌∷◌, ◌++◌, length, map, refl, sym, ap, ◌∙◌}
-use Rattle.std.specs.Prelude.{find, option_map, position, slice_get, string_bytes}
+use Rattle.std.proofs.Common.{◌≡◌, ℕ, ◌+◌, ◌<◌, ◌≤◌, suc, Bool, true, false, cond, ◌||◌, Option, None, Some, List, [], ◌∷◌, ◌++◌, length, map, drop, get_or, append_assoc, append-nil, refl, sym, ap, ◌∙◌, String}
+use Rattle.std.specs.Prelude.{find, is_some, option_map, position, slice_get, string_bytes}
 use Rattle.std.specs.declared.alloc.Global.{Global}
 use Rattle.std.specs.BTreeMap.{BTreeMap, UpdatesBy, is_at}
 use Rattle.std.specs.Cmp.{eq_by_cmp_equiv}
@@ -9,10 +9,13 @@ use Rattle.std.specs.Map.{KeepsOthers, lookup}
 use Rattle.std.specs.Ordering.{eq_by_cmp, is_eq, nat_cmp}
 use Rattle.std.specs.Prelude.{Vec}
 use Rattle.std.specs.declared.cmp.Ordering.{Ordering}
+use Rattle.std.specs.List.{list_any}
 use Rattle.std.specs.Str.{bytes_eq}
+use Rattle.std.proofs.lemmas.List.{at_drop_more, drop_all}
 use Rattle.std.proofs.lemmas.Map.Text.{is_eq-slice_cmp}
 use Rattle.history.proofs.Positions.{find-here, find-none, found_from, none_from, position-cons, slice_get-found}
 use Rattle.scripts.specs.Lines.{Word}
+use Rattle.scripts.specs.KeptLines.{words_of}
 use Rattle.scripts.specs.Scripts.{lone_in}
 use Rattle.scripts.specs.Events.{known_clients, words_known}
 use Rattle.scripts.specs.Places.{ArePlaces, place_in}
@@ -95,6 +98,33 @@ placed_behind words places later key are none updates w = by (bytes_eq key.items
         ∙ are w
         ∙ first-none (position (bytes_eq w) words)
         ∙ ap (λ (b : Bool). first_of (position (bytes_eq w) words) (last_at (length words) b)) (sym (other_way key.items w is))
+
+-- whether a word has a place
+pub any-placed : {X : Type 0} (p : X → Bool) (xs : List X) → is_some (position p xs) ≡ list_any p xs
+any-placed p [] = refl
+any-placed p (x ∷ xs) = ap is_some (position-cons p x xs) ∙ by (p x) (position p xs) (any-placed p xs)
+  where
+    by : (b : Bool) (o : Option ℕ) → is_some o ≡ list_any p xs → is_some (cond b (Some 0) (option_map suc o)) ≡ (b || list_any p xs)
+    by true o e = refl
+    by false None e = e
+    by false (Some n) e = e
+
+-- ---- copies of words
+
+pub words-begin : (words : List (String Global)) (so_far : List Word) → so_far ≡ [] → so_far ++ words_of words ≡ words_of words
+words-begin words so_far none = ap (λ (ws : List Word). ws ++ words_of words) none
+
+pub words-more : (words : List (String Global)) (i : ℕ) (word : String Global) (so_far next whole : List Word) → i < length words → word ≡ get_or words i word → next ≡ so_far ++ string_bytes word ∷ []
+    → so_far ++ words_of (drop i words) ≡ whole → next ++ words_of (drop (i + 1) words) ≡ whole
+words-more words i word so_far next whole within is next_is so =
+    ap (λ (ws : List Word). ws ++ words_of (drop (i + 1) words)) next_is
+    ∙ append_assoc so_far (string_bytes word ∷ []) (words_of (drop (i + 1) words))
+    ∙ ap (λ (w : String Global). so_far ++ (string_bytes w ∷ words_of (drop (i + 1) words))) is
+    ∙ ap (λ (ws : List Word). so_far ++ ws) (sym (at_drop_more words_of words i word within))
+    ∙ so
+
+pub words-end : (words : List (String Global)) (i : ℕ) (so_far whole : List Word) → length words ≤ i → so_far ++ words_of (drop i words) ≡ whole → so_far ≡ whole
+words-end words i so_far whole all so = sym (append-nil so_far) ∙ ap (λ (ws : List (String Global)). so_far ++ words_of ws) (sym (drop_all i words all)) ∙ so
 
 -- ---- the client at a place
 

@@ -19,7 +19,7 @@ use Rattle.scripts.specs.declared.line.Line.TheVariants as lines
 use Rattle.scripts.specs.declared.whole_script.Turn.{Turn}
 use Rattle.scripts.specs.declared.whole_script.Turn.TheVariants as turns
 use Rattle.scripts.specs.declared.whole_script.WholeDraft.{WholeDraft}
-use Rattle.scripts.specs.KeptLines.{said, words_of}
+use Rattle.scripts.specs.KeptLines.{said}
 use Rattle.scripts.specs.Events.{words_known}
 use Rattle.scripts.specs.Drafts.{Taken, taken_of, known_of, GrowsBy, HaveMade}
 use Rattle.scripts.specs.TextLines.{TakesHeld}
@@ -147,7 +147,7 @@ module _ (draft : WholeDraft) (line : WholeLine) (so_far : WholeSoFar) (held : H
   is_far = is_far_in so_far.known.fars
 
   abbrev all : List Word
-  all = words_of draft.clients.items
+  all = draft.clients
 
   -- by whether it may follow, and by what each hub makes of it
   abbrev fit_by : Bool → Option Known → Option Known → Option BothKnown
@@ -241,7 +241,7 @@ module _ (draft : WholeDraft) (line : WholeLine) (so_far : WholeSoFar) (held : H
 
         holds : HoldsWhole later so
         holds = record {
-          all = held.all ∙ ap (λ (d : WholeDraft). words_of d.clients.items) (sym took.3);
+          all = held.all ∙ ap (λ (d : WholeDraft). d.clients) (sym took.3);
           carriers = held.carriers ∙ ap (λ (d : WholeDraft). alone_in d.carriers) (sym took.3);
           known = known-there;
           fars = ap (λ (fs : List Word). fars_behind fs line) held.fars ∙ sym (fars-more [] so_far.lines line);

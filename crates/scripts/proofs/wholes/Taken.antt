@@ -36,7 +36,7 @@ at_first octets = none_so_far (all_made octets) (all_carried octets)
 
 -- a draft of no lines
 pub record IsBegun (octets : List ℕ) (draft : WholeDraft) : Type 0 where
-  pub clients : words_of draft.clients.items ≡ all_made octets
+  pub clients : draft.clients ≡ all_made octets
   pub carriers : alone_in draft.carriers ≡ carries_alone (all_carried octets)
   pub near : taken_of draft.near ≡ nothing_taken
   pub far : taken_of draft.far ≡ nothing_taken

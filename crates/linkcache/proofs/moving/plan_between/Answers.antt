@@ -1,4 +1,4 @@
-use Rattle.std.proofs.Common.{◌∙◌, sym, ap, subst}
+use Rattle.std.proofs.Common.{◌∙◌, sym, subst}
 use Rattle.rrset.specs.RecordSet.{changes}
 use Rattle.rrset.specs.Tables.{HaveLowerOwners}
 use Rattle.linkcache.specs.Plans.{HaveLowerKeys}
@@ -12,10 +12,8 @@ returns-clause-between c =
     let work = c.args.work.now.rows in
     let rules = c.args.rules.now in
     let moved = c.in_ok-rows.ensures.rows ∙ c.in_ok-moves.ensures in
-    let before = c.in_ok-before.ensures ∙ ap (shown_rows rules) c.entries.ensures.rows in
-    let after = c.in_ok-after.ensures ∙ ap (shown_rows rules) c.entries-2.ensures.rows in
     record {
       keys = subst HaveLowerKeys (sym moved) (lower_moves part work (subst (λ (l : LinkRows). HaveLowerOwners l) c.entries.ensures.rows c.entries.ensures.lower) (subst (λ (l : LinkRows). HaveLowerOwners l) c.entries-2.ensures.rows c.entries-2.ensures.lower));
       moved = moved;
-      shown = c.in_ok-changed.ensures ∙ (λ i. changes (before i) (after i));
+      shown = c.in_ok-changed.ensures ∙ (λ i. changes (shown_rows rules (c.entries.ensures.rows i)) (shown_rows rules (c.entries-2.ensures.rows i)));
     }

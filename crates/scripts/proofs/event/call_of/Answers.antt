@@ -12,11 +12,11 @@ use Rattle.scripts.proofs.event.call_of.Goals as goal
 pub returns-in_err-client : goal.returns-in_err-client
 returns-in_err-client c all links =
     let clients = known_clients c.args.clients.now in
-    let none = ap (λ (w : Word). position (bytes_eq w) (words_known clients)) (sym c.as_bytes.ensures.value) ∙ sym c.client_of.ensures ∙ c.in_err-client.was in
+    let none = ap (λ (w : Word). position (bytes_eq w) (words_known clients)) (sym c.as_bytes.ensures.value) ∙ sym c.place.ensures ∙ c.in_err-client.was in
     subst (λ (o : Option Event). Numbered all links clients (event_lines.Call c.args.word c.args.call) o) (sym c.from_residual.ensures) (unnumbered-call all links clients c.args.word c.args.call none)
 
 pub returns : goal.returns
 returns c all links =
     let clients = known_clients c.args.clients.now in
-    let at = ap (λ (w : Word). position (bytes_eq w) (words_known clients)) (sym c.as_bytes.ensures.value) ∙ sym c.client_of.ensures ∙ c.in_ok-client.was in
+    let at = ap (λ (w : Word). position (bytes_eq w) (words_known clients)) (sym c.as_bytes.ensures.value) ∙ sym c.place.ensures ∙ c.in_ok-client.was in
     numbered-call all links clients c.args.word c.args.call c.in_ok-client.client at

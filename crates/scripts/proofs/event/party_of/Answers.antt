@@ -9,5 +9,5 @@ use Rattle.scripts.proofs.event.party_of.Goals as goal
 pub returns-in-Some : goal.returns-in-Some
 returns-in-Some c =
     let clients = known_clients c.args.clients.now in
-    let at = ap (λ (w : Word). position (bytes_eq w) (words_known clients)) (sym c.as_bytes.ensures.value) ∙ sym c.client_of.ensures ∙ c.in-Some.is in
+    let at = ap (λ (w : Word). position (bytes_eq w) (words_known clients)) (sym c.as_bytes.ensures.value) ∙ sym c.place.ensures ∙ c.in-Some.is in
     client-party clients (string_bytes c.args.word) c.in-Some.client at

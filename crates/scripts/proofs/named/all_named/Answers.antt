@@ -1,8 +1,6 @@
 use Rattle.std.proofs.Common.{◌≡◌, Bool, ◌&&◌, ◌++◌, List, length, sym, ap, ◌∙◌, arith}
-use Rattle.std.specs.declared.alloc.Global.{Global}
-use Rattle.std.specs.declared.string.String.{String}
 use Rattle.push_base.specs.Cases.{is_empty}
-use Rattle.scripts.specs.KeptLines.{words_of}
+use Rattle.scripts.specs.Lines.{Word}
 use Rattle.scripts.specs.TextLines.{is_too_long}
 use Rattle.scripts.specs.WholeScripts.{made_by, all_made}
 use Rattle.scripts.proofs.wholes.Carried.{carried-begin, carried-more, carried-outside, carried-end}
@@ -12,7 +10,7 @@ use Rattle.scripts.proofs.named.all_named.Goals as goal
 pub lines-init : goal.lines-init
 lines-init c =
     let octets = c.args.octets.now in
-    (ap (λ (ws : List (String Global)). words_of ws ++ all_made octets) c.new-clients.ensures.items, carried-begin (is_too_long octets) octets _ c.new-carriers.ensures)
+    (ap (λ (ws : List Word). ws ++ all_made octets) c.new-clients.ensures, carried-begin (is_too_long octets) octets _ c.new-carriers.ensures)
 
 pub returns-then-is_outside-clause-clients : goal.returns-then-is_outside-clause-clients
 returns-then-is_outside-clause-clients c =

@@ -1,5 +1,4 @@
 use Rattle.std.proofs.Common.{◌≡◌, ◌++◌, length}
-use Rattle.scripts.specs.KeptLines.{words_of}
 use Rattle.scripts.specs.Scripts.{lines_in}
 use Rattle.scripts.specs.Carrying.{alone_in}
 use Rattle.scripts.specs.TextLines.{is_too_long}
@@ -10,7 +9,7 @@ use Rattle.scripts.proofs.named.all_named.Given as goal
 -- the words and the carriers so far, and those of the lines that are left
 abbrev pub invariant-lines : goal.invariant-lines
 invariant-lines l =
-    (words_of l.clients.items ++ named_in made_by (is_too_long l.fn.octets) (lines_in l.rest) ≡ all_made l.fn.octets)
+    (l.clients ++ named_in made_by (is_too_long l.fn.octets) (lines_in l.rest) ≡ all_made l.fn.octets)
     × AreCarried (alone_in l.carriers) (is_too_long l.fn.octets) l.rest (all_carried l.fn.octets)
 
 abbrev pub decreases-lines : goal.decreases-lines
