@@ -40,14 +40,6 @@ impl Alone {
         }
     }
 
-    /// The hub.
-    pub fn into_hub(self) -> Hub
-        ensures { result ≡ self.hub }
-    {
-        let Alone { hub, .. } = self;
-        hub
-    }
-
     /// The number of calls that are turns.
     pub fn calls(&self) -> u64
         ensures { result ≡ self.now.calls }
