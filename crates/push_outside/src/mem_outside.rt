@@ -141,13 +141,6 @@ impl MemOutside {
         self.sources.items()
     }
 
-    /// The doors that were taken back, the first ones first.
-    pub fn used_doors(&self) -> &[MemDoors<MemLine, MemSink>]
-        ensures { result.now ≡ self.now.doors.items }
-    {
-        self.doors.items()
-    }
-
     /// The lines that were taken back, the first one first.
     pub fn used_lines(&self) -> &[MemLine]
         ensures { result.now ≡ self.now.lines.items }
@@ -162,25 +155,11 @@ impl MemOutside {
         self.wires.items()
     }
 
-    /// The datagrams that were taken back, the first ones first.
-    pub fn used_links(&self) -> &[MemDatagrams]
-        ensures { result.now ≡ self.now.links.items }
-    {
-        self.links.items()
-    }
-
     /// The clocks that were taken back, the first one first.
     pub fn used_clocks(&self) -> &[MemClock]
         ensures { result.now ≡ self.now.used_clocks.items }
     {
         self.used_clocks.items()
-    }
-
-    /// The starters that were taken back, the first one first.
-    pub fn used_starters(&self) -> &[MemStarter]
-        ensures { result.now ≡ self.now.used_starters.items }
-    {
-        self.used_starters.items()
     }
 
     /// How often `open` failed, or a source or a line that had failed was taken back.
