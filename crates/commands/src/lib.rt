@@ -11,5 +11,13 @@ mod serve_command;
 mod status;
 mod subscribe_command;
 
+ghost use Rattle.std.specs.Prelude.{◌≡◌};
+ghost use Rattle.commands.specs.Words.{greatest_number};
+
 pub use program::run;
 pub use status::Status;
+
+/// The limit of a number in the words of a command.
+pub fn limit_rows()
+    ensures number { greatest_number ≡ 1000000 }
+{}

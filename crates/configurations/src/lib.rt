@@ -9,6 +9,7 @@ mod words;
 ghost use Rattle.std.specs.Prelude.{◌≡◌, [], ◌∷◌, Err, Ok, codes, false, replicate, true};
 ghost use Rattle.configurations.specs.Configurations.{may_ask, no_subscribing, serving_of, subscribing_of};
 ghost use Rattle.configurations.specs.Worked.{all_records, asking, served, serving, soa, subscribing, text};
+ghost use Rattle.configurations.specs.Configurations.{max_accepted, max_turns};
 
 pub use server_config::{FedLink, ReadServe, ServeConfiguration, read_serve};
 pub use subscriber_config::{ReadSubscribe, SubscribeConfiguration, read_subscribe};
@@ -54,4 +55,10 @@ pub fn worked_subscribers()
     ensures head { subscribing_of (text (codes "zone example.com. 1 open" ∷ [])) ≡ Err 1 }
     ensures last_question { may_ask (record no_subscribing { questions = replicate 1023 soa }) all_records ≡ true }
     ensures many_questions { may_ask (record no_subscribing { questions = replicate 1024 soa }) all_records ≡ false }
+{}
+
+/// The limits of configurations: accepted sessions, and turns of each loop.
+pub fn limit_rows()
+    ensures accepted { max_accepted ≡ 1000000 }
+    ensures turns { max_turns ≡ 1099511627776 }
 {}

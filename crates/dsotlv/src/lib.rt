@@ -24,6 +24,7 @@ ghost use Rattle.dnsname.specs.Text.{name};
 ghost use Rattle.dsotlv.specs.Messages.{head_of, dso_of, frame, messages_in, dso_octets};
 ghost use Rattle.dsotlv.specs.Notices.{notices_of, question_of, reconfirm_of, notice_octets, applied_all};
 ghost use Rattle.rrset.specs.RecordSet.{set_of};
+ghost use Rattle.dsotlv.specs.Messages.{max_frame};
 
 pub use framer::{Framer, LENGTH, MAX_FRAME, copy_front};
 pub use header::{head, primary_data};
@@ -56,4 +57,9 @@ pub fn worked_rows()
     ensures any_kind { notices_of (hex (codes "0000ff0001000000000000")) ≡ Err (PushFault.Data 1) }
     ensures frames { messages_in (hex (codes "000201020001030002")) ≡ ((1 ∷ 2 ∷ []) ∷ (3 ∷ []) ∷ [], hex (codes "0002")) }
     ensures added { applied_all (Notice.Add (record { owner = name (codes "x."); class = 1; kind = 1; ttl = 5; rdata = 1 ∷ 2 ∷ 3 ∷ 4 ∷ [] }) ∷ Notice.RemoveSet (name (codes "X.")) 1 1 ∷ []) (record { name = name (codes "x."); kind = 255; class = 1 }) [] ≡ [] }
+{}
+
+/// The limit of a frame: its octets, with the two of its length (RFC 8490, 5.1).
+pub fn limit_rows()
+    ensures frame { max_frame ≡ 65537 }
 {}

@@ -14,6 +14,9 @@ mod shared;
 mod signal;
 mod wakeups;
 
+ghost use Rattle.std.specs.Prelude.{◌≡◌};
+ghost use Rattle.hublock.specs.Feeds.{parts_each};
+
 pub use blanks::Blanks;
 pub use books::{Books, PARTS};
 pub use feed::Feed;
@@ -27,3 +30,8 @@ pub use register::{NoRegister, Register};
 pub use seats::Seats;
 pub use shared::{OnePart, Shared};
 pub use signal::Signal;
+
+/// The limit of a ledger: the parts into which it may be cut.
+pub fn limit_rows()
+    ensures parts { parts_each ≡ 4194304 }
+{}

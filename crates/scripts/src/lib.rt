@@ -21,6 +21,10 @@ mod whole_line;
 mod whole_script;
 mod words;
 
+ghost use Rattle.std.specs.Prelude.{◌≡◌};
+ghost use Rattle.scripts.specs.Lines.{longest_word, max_octets_passed, max_rcode, max_u16, max_u32, most_digits};
+ghost use Rattle.scripts.specs.Scripts.{max_script};
+
 pub use client_readers::question_of;
 pub use clients::KnownClient;
 pub use last_text::{NO_MEMORY, READ_FAULT, tell};
@@ -33,3 +37,14 @@ pub use text_lines::{TakeLines, TakenLines, split_line, take_lines};
 pub use whole_line::{CarryLine, WholeLine, read_whole_line};
 pub use whole_script::{ReadWhole, Turn, WholeScript, read_whole_script};
 pub use words::{close_words, octets_text};
+
+/// The limits of scripts: octets of a script and of a piece, letters of a word, digits of hexadecimal, and numbers.
+pub fn limit_rows()
+    ensures script { max_script ≡ 16777216 }
+    ensures passed { max_octets_passed ≡ 1048576 }
+    ensures word { longest_word ≡ 32 }
+    ensures digits { most_digits ≡ 131074 }
+    ensures rcode { max_rcode ≡ 15 }
+    ensures sixteen_bits { max_u16 ≡ 65535 }
+    ensures thirty_two_bits { max_u32 ≡ 4294967295 }
+{}

@@ -23,6 +23,7 @@ ghost use Rattle.dnsname.specs.Text.{name};
 ghost use Rattle.rrset.specs.RecordSet.{RecordSet};
 ghost use Rattle.zoneupdate.specs.Zones.{new_zone, serial_of_zone, serial_is_greater, is_zone};
 ghost use Rattle.zoneupdate.specs.Worked.{judged_rr, kinds_after, prerequisite_row, change_row, is_zone_after, added_twice};
+ghost use Rattle.zoneupdate.specs.Updates.{max_zone_records};
 
 pub use applying::make_changes;
 pub use plan::{Under, Verdict, ZoneFault, ZonePlan};
@@ -53,4 +54,9 @@ pub fn worked_rows()
     ensures meta { change_row 1 (codes "a.example.com.") 60 1 255 [] ≡ Err 1 }
     ensures all_sets { change_row 1 (codes "example.com.") 0 255 255 [] ≡ Ok (1, 2 ∷ 6 ∷ []) }
     ensures later_ttl { added_twice ≡ Ok (3, 120 ∷ []) }
+{}
+
+/// The limit of a zone: its records.
+pub fn limit_rows()
+    ensures zone_records { max_zone_records ≡ 65536 }
 {}
