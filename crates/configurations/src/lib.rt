@@ -1,4 +1,23 @@
-//! Configurations of a server and of a subscriber, read line by line.
+//! The configuration files of the server and of the subscriber: the grammar of their lines, and the settings that come
+//! of them, or the number of the first bad line.
+//!
+//! **Model.** A configuration is a text of lines. `serving_of` and `subscribing_of` (`specs/Configurations`) give what
+//! it says, or the number of the first line outside; where a line is missing that is the one behind the last. What the
+//! program holds is a `ServeConfiguration` or a `SubscribeConfiguration`, and `specs/Kept` says what it stands for.
+//!
+//! **Flow.** `read_serve` (`server_config.rt`) takes line by line with `take_lines` of `scripts`. The first word gives
+//! the kind of a line: `listen`, `sessions`, `feed` and `turns` are read here, and any other must be one of a script's
+//! head (`zone`, `link`, `reverse`, `timers`). At the end it asks that `listen` and `sessions` were there.
+//! `read_subscribe` (`subscriber_config.rt`) does the same for `server`, `question`, `messages` and `turns`. `words.rt`
+//! has what both share, and `limits.rt` the greatest numbers.
+//!
+//! **Begin** with `specs/Configurations`, and the worked rows below: each shows a text and what becomes of it.
+//!
+//! **Change.** How a draft is kept is private to each file. A further line of a server changes this crate and
+//! `commands`; docs/ARCHITECTURE.md lists all places. Nothing is opened here: an address is a word, which the outside
+//! will understand or not.
+//!
+//! **Stand on it**: `commands` (both commands), `subscriber` (what to ask).
 #![tactic(auto)]
 
 pub mod limits;

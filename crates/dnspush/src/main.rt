@@ -1,4 +1,23 @@
-//! Serves DNS Push, follows a server as a subscriber, and replays scripts of DNS Push sessions and checks them.
+//! The program `dnspush`: a DNS Push server, a subscriber, and a simulator of DNS Push sessions. This is the thin
+//! `main`; all that it does is `commands::run`.
+//!
+//! **Model.** `main` has no contract: nobody calls it. It hands the words, the standard streams and the real outside to
+//! `run`, whose clauses say what follows. So what stands here is believed after reading, and is kept short enough for
+//! that.
+//!
+//! **Flow.** `main.rt` first takes the descriptors 0 to 2 where they are closed, so that no connection gets one of
+//! them. Then it reads the words, makes the logger (`log_lines.rt`, by the level that the environment chooses) and a
+//! `System` of `push_outside`, calls `run`, and exits with its answer. The register that `run` is given tells nothing
+//! (`NoRegister`).
+//!
+//! **Begin** here, then `crates/commands/src/program.rt`.
+//!
+//! **Change.** Nothing stands above this crate, so all is free. Whatever can be said in a contract belongs in
+//! `commands`: code in this crate is only read. Any handle beyond those that the file HANDLES allows is refused by the
+//! gate.
+//!
+//! **Stand on it**: nobody. The gate builds it twice, by LLVM and by Rattle's own compiler, and
+//! `scripts/check-program`, `scripts/real-tools` and `scripts/measure` run it.
 #![tactic(auto)]
 
 mod log_lines;

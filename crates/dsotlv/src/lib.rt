@@ -1,4 +1,23 @@
-//! DSO messages and notices: reading and writing them (RFC 8490, 5.4; RFC 8765, 6).
+//! The wire format of DNS Stateful Operations (DSO) and DNS Push: frames on a TCP stream, messages with their TLVs, and
+//! the data of SUBSCRIBE, PUSH, UNSUBSCRIBE and RECONFIRM (RFC 8490, 5.4; RFC 7766, 8; RFC 8765, 6).
+//!
+//! **Model.** Contracts see a message as a record of its ID, its RCODE and a list of TLVs, and the data of a PUSH as a
+//! list of `Notice`. A `Framer` is the list of octets that it holds. `specs/Spelling` says which octets spell which
+//! value. `specs/Messages` and `specs/Notices` say what is read of any octets, or what the first fault is. The laws
+//! (`specs/Laws`) tie both together, and say that the pieces in which a stream comes don't matter.
+//!
+//! **Flow.** Octets that came go into a `Framer` (`framer.rt`), which hands out the first whole message. `header.rt`
+//! reads the head of it, by which a session decides, and finds the data of its first TLV. `question.rt`, `reconfirm.rt`
+//! and `push.rt` read such data. `write.rt` writes whole messages, `notice.rt` one record of a PUSH.
+//!
+//! **Begin** with `specs/Messages` beside RFC 8490, 5.4. Then read `header.rt`, and `specs/Notices` beside RFC 8765,
+//! 6.3.
+//!
+//! **Change.** Other crates see the contracts and `specs/` alone, so bodies and private helpers are free. Not free are
+//! `DsoHead`, `Notice` and the numbers in `kinds.rt`: the reactions of both ends go by their cases.
+//!
+//! **Stand on it**: `dsosession` (reactions to heads), `pushsession` and `pushclient` (a `Framer` each), `coalesce`
+//! (writes notices), `mirror` (applies them), `scripts` (limits of frames).
 #![tactic(auto)]
 
 pub mod data_sizes;

@@ -1,4 +1,22 @@
-//! Each kind of step keeps what is under way between a client and its session together. The crate has laws alone.
+//! Laws, no code: each step of a client, of its session or of the network between them keeps both consistent, so that
+//! the client never closes with an error and ends with what the server has.
+//!
+//! **Model.** The laws speak of plain clients, plain sessions and the octets between them. Each has the form: if
+//! `InFlight` (of `inflight`) holds before a step, it holds behind it. `specs/Laws` has octets that pass,
+//! `specs/Asking` and `specs/Taking` the client's steps, `specs/Reacting`, `specs/Turns` and `specs/EachGive` the
+//! session's, and `specs/OtherCalls` all other calls of the hub. `specs/GoesOn` and `specs/Holding` say what follows:
+//! no message ends a connection, and what is held is the history.
+//!
+//! **Flow.** There is none: this file names each law as a function without a body, from single steps to whole calls.
+//! Large ones rest on small ones in the order of this file.
+//!
+//! **Begin** with `specs/Laws` and `specs/Reacting`; `specs/Holding` is what it is all for.
+//!
+//! **Change.** Proofs are free. A further message of either end is a case of most laws here (`specs/Meeting` lists how
+//! messages are met). A further call of the hub is one of `specs/OtherCalls`, with a case in `proofs/OtherSteps`. What
+//! is kept in the code doesn't matter here.
+//!
+//! **Stand on it**: `script_laws` and `two_hubs`, which walk over the lines of scripts with these laws.
 #![tactic(auto)]
 
 ghost use Rattle.flight_laws.specs.GoesOn.{ClientsGiveOctets, ClientsTakeOctets, GivesTakeNothing, NoMessageEndsIt, OtherCallsTakeNothing, SessionsTakeOctets, TakenIsCounted, TakenStays};

@@ -1,4 +1,26 @@
-//! Homes, the journal and the states that it tells.
+//! The server's database and its journal: all zones and links, each accepted change as an entry, and the state after
+//! any number of entries.
+//!
+//! **Model.** A history is a start and a list of entries (`Past`, `PointsKept`). An entry is an update, a datagram
+//! heard on a link, a reconfirmed record, a link that went away, or a moment (`Entry`). `specs/States` says whether a
+//! state accepts an entry, what state comes after it, and which records a state shows. A point is a number of entries;
+//! what is true at a point is the fold of the entries up to it.
+//!
+//! **Flow.** `Points::plan` asks what an entry would change. `planning.rt` hands an update to its zone (`updating.rt`),
+//! and any other entry to the links that it concerns (`steps.rt`, `link_lists.rt`). It answers with the changed keys,
+//! and holds the plan. `Points::append` puts the entry into the journal (`past.rt`), then makes the changes of the plan
+//! in the homes (`homes.rt`). The second step takes no memory. Old entries are forgotten there: the start moves on, by
+//! a plan, or by a copy that was made ahead of time (`ahead.rt`).
+//!
+//! **Begin** with `specs/Entries` and `specs/States`, then `points.rt`. `specs/Homes` says which zones and links may
+//! stand side by side.
+//!
+//! **Change.** What is kept of the past is private to `past.rt` and `ahead.rt`: callers see the entries that `append`
+//! was told to keep. `specs/States` is what nearly every law of the server speaks of, so its words stay. A further kind
+//! of entry has a list of its own in docs/ARCHITECTURE.md.
+//!
+//! **Stand on it**: `pushserver` (plans and appends each entry), `scripts` and `configurations` (make homes), and all
+//! laws above.
 #![tactic(auto)]
 
 mod ahead;

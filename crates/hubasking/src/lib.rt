@@ -1,4 +1,25 @@
-//! A hub that asks its links what its sessions ask (RFC 8766, 5.6).
+//! The whole hub that runs: the DNS Push server's core, and beside it what each link is asked by mDNS because of what
+//! its sessions ask (RFC 8766, 5.6; RFC 6762, 5.2).
+//!
+//! **Model.** A hub is an `AskingHub`: the hub of `pushserver` as it is kept, and for each link its `Askings`. All
+//! calls but `ask` do to the former what the calls of the same name do there. `specs/LinkAskings` says, for plain hubs,
+//! what a link is asked behind each call; `OneAsking` (`specs/Laws`) says that a kept hub asks the same as the plain
+//! one.
+//!
+//! **Flow.** `hub.rt` has the calls: each is a call of `pushserver::Hub`, and behind it `follow` (`following.rt`),
+//! which drops what has lost its reason. Before a session's turn `make_ready` (`giving.rt`) looks at its next message,
+//! and takes the memory for a reason or a doubted row. Behind the turn `settle` keeps that or takes it back.
+//! `translating.rt` puts a question into a link's words, `hearing.rt` lets a heard record be asked about anew, and
+//! `asking.rt` writes the datagram that is due. `seating.rt` makes sessions, `idle.rt` tells for whom nothing waits.
+//!
+//! **Begin** with `specs/AskingHubs` and `specs/LinkAskings`, then `hub.rt`, then `giving.rt`.
+//!
+//! **Change.** The reasons are private: crates above know `AskingHub` and the definitions of `specs/LinkAskings` alone.
+//! A call that enters something ends with `follow`, or a link goes on being asked for nothing. What a call does to the
+//! hub itself belongs in `pushserver`.
+//!
+//! **Stand on it**: `hubloops` (four loops call it), `hublock` (one behind a lock), `replay` (scripts drive it),
+//! `commands` (makes it of a configuration).
 #![tactic(auto)]
 
 mod asking;

@@ -1,4 +1,24 @@
-//! One hub behind a lock, the tokens that count its entries, and its gate for the loops of many threads.
+//! The hub that threads share: one mutex around it, condition variables on which a session's threads sleep, and counted
+//! shares from which each thread's number of accepted entries is known without the lock.
+//!
+//! **Model.** `Locked` is the value under the mutex: the hub, the totals of four ledgers, which lines are over, how
+//! many sessions are left, and whether all is to stop (`LockedState`). No contract can say what it is between two
+//! calls, except what always holds (`Holds`). A `Feed` is one thread's share of three ledgers; when all feeds are
+//! joined they have exactly the journal's counts (`specs/Feeds`).
+//!
+//! **Flow.** `HubLock::new` (`lock.rt`) puts a hub behind the lock and tells a `Register`. `Shared` (`shared.rt`) is
+//! the `Gate` of one thread. Each of its calls locks, makes one call of `Locked` (`locked.rt`), notes in the feed what
+//! was entered, decides whom that wakes (`wakeups.rt`), unlocks, and only then notifies. `pause` sleeps unless
+//! something came since. `signal.rt` has what loops tell each other, `marks.rt` the lines that are over, `log_lines.rt`
+//! what is logged.
+//!
+//! **Begin** with `locked.rt`, then `shared.rt`, then `wakeups.rt`, which has the rule that no wake-up is lost.
+//!
+//! **Change.** Who is woken, and when, is seen by no contract: it is free, and nothing but tests will show an error
+//! there. The ledgers and what a `Feed` rises by are cited by `serving` and `commands`. A call made while the lock is
+//! held must not call the outside.
+//!
+//! **Stand on it**: `serving` (a hold for each job), `commands` and `dnspush` (registers).
 #![tactic(auto)]
 
 mod blanks;

@@ -1,4 +1,23 @@
-//! What is under way between a client and its session: an invariant on lists. The crate has definitions alone.
+//! Definitions, no code: the invariant that ties a DNS Push client to its session on the server while messages are on
+//! their way in both directions.
+//!
+//! **Model.** `InFlight` (`specs/Flight`) takes what both ends know (`BothEnds` in `specs/Ends`) and the octets under
+//! way, up and down. It says that these octets are whole messages, and that they fit both ends: what the client will
+//! hold, once all have come, is what the session counts as sent. `specs/Messages` has the messages of both sides as
+//! data, `specs/Holding` what a wish will be held by then.
+//!
+//! **Flow.** A message is born at one end and stays in the list until the other end has reacted to it. No call is made
+//! here. The crate `flight_laws` shows that each step of either end keeps `InFlight`.
+//!
+//! **Begin** with the rows below: worlds that fit, and worlds that don't. Above each of the latter stands what would go
+//! wrong from there. Then read `specs/Flight`, a sentence at a time.
+//!
+//! **Change.** A sentence may be added where a law needs it: each step must then be shown to keep it (`flight_laws`),
+//! and a row below should show a world that it alone refuses. None may go without one of those worlds being let in.
+//! Bounds here are those of `push_base::limits`.
+//!
+//! **Stand on it**: `flight_laws` (all steps), `replay` (the promise `HoldsAfterEachLine` of a script's text),
+//! `script_laws` and `two_hubs`.
 #![tactic(auto)]
 
 ghost use Rattle.std.specs.Prelude.{◌≡◌, [], ◌∷◌, true, false, codes, replicate};

@@ -1,4 +1,22 @@
-//! What a client holds: questions, each with a record set (RFC 8765, 6.3).
+//! What a DNS Push client holds: of each question that was accepted the record set that the server's PUSH messages have
+//! built (RFC 8765, 6.3).
+//!
+//! **Model.** A `Mirror` is a list of questions, each with its record set, in the order in which they began (`Held`).
+//! No question is there twice (`AreHeld`), and a set has only records for which its question asks (`AreAsked`). What
+//! notices do to the sets is `applied_to` in `specs/Held`, which does `applied_all` of `dsotlv` to each.
+//!
+//! **Flow.** `begin` makes an empty set when NOERROR answers a SUBSCRIBE, and `end` drops it. `apply` takes all notices
+//! of one PUSH. `notices.rt` first makes the keys and values that come in, with all the memory that this takes. Only
+//! then it changes the sets, so that want of memory leaves each set as it was. A notice about another name isn't
+//! compared with the set at all.
+//!
+//! **Begin** with `specs/Held`, then `holding.rt`. `specs/Changes` says how notices are made ready.
+//!
+//! **Change.** All but the five calls of `Mirror` and `specs/Held` is private. Sets may be kept otherwise, for instance
+//! by name, and no other crate's proof changes. The two steps of `apply` must stay: `pushclient` promises that a
+//! message which found no memory waits whole.
+//!
+//! **Stand on it**: `pushclient` alone, which shows a set as `Held::Answered`. `replay` cites its definitions.
 #![tactic(auto)]
 
 mod holding;

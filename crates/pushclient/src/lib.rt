@@ -1,4 +1,25 @@
-//! The client's core: its wishes, its connection, and the sets that it was told (RFC 8490, RFC 8765).
+//! A DNS Push client without its socket: it asks questions, keeps a record set for each answer, reacts to each message
+//! of the server, and sends Keepalives (RFC 8490, 5 to 7; RFC 8765, 6).
+//!
+//! **Model.** A `Client` stands for plain clients (`specs/Clients`): wishes in the order of asking, each with the
+//! notices that came since its answer, and a connection. What is kept instead of notices is a `Mirror` (`specs/Rule`).
+//! `specs/Steps` says what one message or one moment does. `specs/Pieces` promises that what it does depends on the
+//! octets, and not on the pieces in which they came.
+//!
+//! **Flow.** `client.rt` has the calls, over `client_state.rt`. `connected` asks all wanted questions anew;
+//! `subscribe`, `unsubscribe` and `reconfirm` write messages (`client_messages.rt`, `connection.rt`). `take` puts
+//! octets into the input. `step` reacts to one whole message: `told.rt` says what it tells, `reacting.rt` what becomes
+//! of the wishes (`wishes.rt`) and the sets. `moment` sends a Keepalive or closes. `give`, or `hand_out_over`
+//! (`hand_out.rt`), hands out what is to be sent.
+//!
+//! **Begin** with `specs/Clients` and `specs/Steps`, then `client.rt`, then `reacting.rt`.
+//!
+//! **Change.** How wishes and sets are kept is private. `specs/Clients` and `specs/Steps` are what the laws of
+//! `flight_laws` and the text of `subscriber` speak of. A case more in `Step`, `Asked` or `Held` is one for
+//! `subscriber` and `replay` to print. The client never trusts the server: each octet string has a defined step.
+//!
+//! **Stand on it**: `subscriber` (the command), `replay` (the clients of scripts), and the laws of `inflight` and
+//! `flight_laws`.
 #![tactic(auto)]
 
 pub mod client;

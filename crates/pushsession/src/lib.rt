@@ -1,4 +1,26 @@
-//! One session of the server: what it asks, what has changed for it, its timers, and its octets (RFC 8490, RFC 8765).
+//! One session of a DNS Push server: it reacts to SUBSCRIBE, UNSUBSCRIBE, RECONFIRM, Keepalive, updates and queries,
+//! keeps its subscriptions, and writes its PUSH messages (RFC 8490, 6; RFC 8765, 6).
+//!
+//! **Model.** A `PushSession` is a `KeptSession`: its questions, the names that wait, its timers, the octets that came
+//! and those that wait to go, and how it stands. The rules are in `specs/Sessions`, `specs/Subscribing` and
+//! `specs/Reactions`. They hold for any way to keep questions and names: `Keeps` lists the operations that they need,
+//! and `keeping` (`specs/Kept`) is the way of this code.
+//!
+//! **Flow.** `buffers.rt` takes octets into the input. `request` (`taking.rt`) says what the first whole message needs
+//! of the server: an update, a query, a record to reconfirm, a question, or nothing. The caller answers with one call:
+//! `subscribe` (`subscribe.rt`), `answer_update`, `answer_query`, `reconfirm` or `react` (`reacting.rt`). Each takes
+//! the message up and writes what it says (`saying.rt`, `short_messages.rt`). Where no message waits, `pack` writes one
+//! PUSH. `note` (`noting.rt`) hears of each change before it is made, `ending.rt` has stops and ends, and `copy` hands
+//! the output on.
+//!
+//! **Begin** with `specs/Sessions` and `specs/Subscribing`, then `session.rt`, then `taking.rt`.
+//!
+//! **Change.** How a session keeps things may change: give a new `keeping`, and prove that it does what the plain one
+//! does (`pushserver/proofs/session_steps`). A rule of `specs/` holds for the plain session too, so its change reaches
+//! the laws of `pushtelling` and `flight_laws`. A further message is a case of `Request`.
+//!
+//! **Stand on it**: `livesessions` (many sessions), `pushserver` (a turn of each), `hubasking` (what the next message
+//! is).
 #![tactic(auto)]
 
 mod buffers;

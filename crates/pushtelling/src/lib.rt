@@ -1,5 +1,23 @@
-//! What any calls keep of the server's sessions: each was told what the history says, what was made for it goes out, and
-//! what comes in is reacted to in its order. The crate has laws alone.
+//! Laws, no code: after any calls of the hub each subscriber was sent exactly what the history says, nothing that was
+//! made for it is lost, and each message that came in is reacted to once and in order.
+//!
+//! **Model.** The laws speak of the plain hub of `pushserver`, and of a list of calls (`HubCall`) that led to it.
+//! `SessionsTellTheHistory` (`specs/Laws`) says that the notices of each message lead from what was told before to the
+//! records at the point in its note. `specs/Runs` says what goes in and out of a session: `MadeGoesOut`,
+//! `EachIsReactedToOnce`, `NotesLieBetween`.
+//!
+//! **Flow.** There is none: this file names each law as a function without a body. Each is proved by a walk over the
+//! list of calls, with one case for each constructor of `HubCall`. `proofs/Calls` has what one call does,
+//! `proofs/Closed` and `proofs/Running` what all do.
+//!
+//! **Begin** with `specs/Laws`, and then the worked runs below, which show octets.
+//!
+//! **Change.** A proof may change at will. A further call of the hub is a case in `proofs/Closed` and `proofs/Running`.
+//! The laws rest on the rules of `pushserver/specs` and on nothing of what is kept, so no change of an index or a queue
+//! reaches this crate.
+//!
+//! **Stand on it**: `flight_laws`, `script_laws` and `two_hubs`, which say the same of what a client holds and of whole
+//! scripts.
 #![tactic(auto)]
 
 ghost use Rattle.std.specs.Prelude.{◌≡◌, [], ◌∷◌};

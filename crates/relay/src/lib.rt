@@ -1,4 +1,23 @@
-//! A set of one name, as an update that gives a zone this set (RFC 2136, 2.5).
+//! From a record set to a DNS UPDATE: the message that gives a zone exactly this set at a name, in place of what it had
+//! there (RFC 2136, 2.5.3 and 2.5.1).
+//!
+//! **Model.** A set is a `Table`, the list of its records in key order. `relayed` in `specs/Relay` says what becomes of
+//! it for a zone: a message, or the reason why there is none (the name is the apex, or isn't in the zone, or a record
+//! can't be carried). `carrying` is the update that the message spells. `specs/Laws` promises that a zone accepts it,
+//! unless that would be too many records, and then has the set at the name.
+//!
+//! **Flow.** One file, `relay.rt`. `relay_update` tests the name and the kinds of the records first, and then writes
+//! header, zone section, one deletion of all records at the name, and one addition for each record. `fits_message` says
+//! beforehand whether a set is small enough for one message.
+//!
+//! **Begin** with `specs/Relay`, then `relay.rt`; the worked rows below show messages.
+//!
+//! **Change.** The writing is private. The order of the two sections, and that the deletion comes first, are part of
+//! `carrying`, which the laws of two hubs cite. Nothing here knows of clients, hubs or sockets; keep it so, since a
+//! replicator needs just that.
+//!
+//! **Stand on it**: `replay`, whose line `carry` feeds a second hub by it, and the laws of `two_hubs`. `serve` doesn't
+//! use it: the server feeds no other one.
 #![tactic(auto)]
 
 pub mod laws;

@@ -1,4 +1,22 @@
-//! Whole scripts: what is under way between each client and its session fits together after each line. The crate has laws alone.
+//! Laws, no code: what is promised of every script that `dnspush replay` runs. Clients never see an older state than
+//! before, a settle brings them up to date, and no message ends a connection.
+//!
+//! **Model.** The laws speak of the plain worlds of `replay/specs/World`. `WorldStands` (`specs/Joined`) is the
+//! invariant: between two lines each client and its session are in flight together (`InFlight`), and what the client
+//! holds is the history. `specs/Whole` and `specs/Throughout` say it of whole scripts; `specs/Sending` and
+//! `specs/EachMessage` say that what a peer sends is answered.
+//!
+//! **Flow.** There is none: this file names each law as a function without a body. A proof walks over the lines of a
+//! script, and over the calls of the hub that a line makes: `proofs/lines` has the kinds of lines, `proofs/calls` the
+//! calls, `proofs/hubs` what is so of hubs that were reached, `proofs/ends` what a text tells.
+//!
+//! **Begin** with `replay/specs/Promises`, which are the sentences, then `specs/Joined`.
+//!
+//! **Change.** Proofs are free, and no code is concerned. A further line of scripts, or call of the hub, has its cases
+//! here; docs/ARCHITECTURE.md lists them. `specs/Lines` says which lines are within bounds: nothing fails where it is
+//! wider than the reader, and something does where it is narrower.
+//!
+//! **Stand on it**: `two_hubs`, and `commands`, whose `run` cites three of these laws by calling them.
 #![tactic(auto)]
 
 ghost use Rattle.std.specs.Prelude.{◌≡◌, [], ◌∷◌, codes};

@@ -1,5 +1,26 @@
-//! The grammar of scripts, and how they are read: octets of a source, lines, and the script that they make; and how a
-//! program that was given one ends.
+//! The language of `dnspush replay`: a text of lines that makes zones and links, lets clients and peers connect, and
+//! sends updates, datagrams and octets. This crate reads it; `replay` runs it.
+//!
+//! **Model.** A script is a list of lines. `specs/Lines` says what a line may say (`line_of`), and `specs/Scripts`
+//! which list of lines is a script (`may_follow`). `specs/WholeLines` and `specs/WholeScripts` do the same for scripts
+//! with a second hub. What the program gets is a `Script`, whose events tell clients and links by numbers, or the
+//! number of the first line that is outside.
+//!
+//! **Flow.** `read.rt` reads a source to its end. `read_whole_script` (`whole_script.rt`) first collects the words of
+//! all clients (`named.rt`, `all_words.rt`), since no peer may have such a word. Then it takes line by line
+//! (`text_lines.rt`): `whole_line.rt` and `line.rt` parse one, with `line_words.rt` for names and numbers and
+//! `client_readers.rt` for lines of clients; `script.rt` judges whether it may stand there. `event.rt` turns words into
+//! numbers, `head_homes.rt` makes the zones and links. `outcome.rt`, `last_text.rt` and `words.rt` have what programs
+//! print at their end.
+//!
+//! **Begin** with docs/SCRIPTS.md, then `specs/Lines`, then `line.rt`.
+//!
+//! **Change.** How words are found is private (`places.rt`, `client_list.rt`). A further line is a list of its own in
+//! docs/ARCHITECTURE.md. The head's lines are those of a server's configuration too. `Outcome` and the texts in
+//! `last_text.rt` are what users' scripts test.
+//!
+//! **Stand on it**: `replay`, `configurations` (the same head, the same way to take lines), `subscriber` (words),
+//! `commands` (outcomes).
 #![tactic(auto)]
 
 mod all_words;

@@ -1,4 +1,21 @@
-//! What scripts of two hubs carry. The crate has laws alone.
+//! Laws, no code: what is promised of scripts with a second hub, into which names are carried by DNS UPDATE. A client
+//! there sees one of the carried states, never an earlier one than before, and ends with the last.
+//!
+//! **Model.** A script of two hubs is a list of `WholeLine`; each line is something to the first hub, to the second, or
+//! to both. `specs/HalfLaws` says that each half is a script of one hub, so that all laws of `script_laws` hold of it.
+//! `specs/Carrying` says what was carried, and at which points. `specs/RelayLaws` says what clients of the second hub
+//! show, `specs/Relaying` all of it together.
+//!
+//! **Flow.** There is none: this file names each law as a function without a body. A carry reads what a client of the
+//! first hub holds, and is an update of the second (`relay`), which the laws of `zoneupdate` show to be accepted.
+//!
+//! **Begin** with `specs/Carrying`, then `specs/RelayLaws`.
+//!
+//! **Change.** Proofs are free, and no code is concerned. These laws know lines only as `near_lines` and
+//! `far_lines_after` give them, so a further line of one hub alone changes little here: `proofs/FarHeads` is about
+//! lines of the head. A replicator that isn't a script would need the laws of `relay`, not these.
+//!
+//! **Stand on it**: `commands`, whose `run` cites two of these laws by calling them.
 #![tactic(auto)]
 
 ghost use Rattle.std.specs.Prelude.{◌≡◌, ℕ, List, [], Ok};

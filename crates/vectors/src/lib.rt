@@ -1,5 +1,11 @@
-//! Octets of names and of messages, each with what they say or with the place of their fault, as tests of the readers
-//! and the writers.
+//! Test vectors of the wire format: octets of names, rdata, updates, DSO messages and notices, each beside what they
+//! say, or the place of their fault.
+//!
+//! Nothing stands on this crate, and it proves nothing: it tests the public readers and writers of `dnsname`, `rrset`,
+//! `dnswire` and `dsotlv` against octets that stand in tables. Each file is a table and a test that walks it:
+//! `names.rt`, `rdata.rt`, `updates.rt`, `session_messages.rt` and `notices.rt`; `shown.rt` prints values. A row is
+//! hexadecimal text, and what should come of it as words. Add a row where a definition of `specs/` could be read in two
+//! ways, with octets that another program wrote where there are some.
 #![tactic(auto)]
 
 #[cfg(test)]

@@ -1,4 +1,27 @@
-//! Zones and their updates (RFC 2136).
+//! An authoritative zone in memory, and DNS UPDATE on it (RFC 2136, 3): prerequisites, prescan, changes, the SOA's
+//! serial, and the limits of a zone.
+//!
+//! **Model.** A `Zone` is its apex, whether it takes updates, and its records as one list in key order (`ZoneKept`).
+//! Whatever the code does, `Zone::check` answers what `judged` in `specs/Updates` says: the RCODE that refuses an
+//! update, or all rows after it. A plan is the list of keys that will be shown otherwise, each with what was there
+//! before and what is there after.
+//!
+//! **Flow.** `zone.rt` has the calls. `check` goes through `update_check.rt`: `prerequisites.rt` and `agreeing.rt` test
+//! the prerequisites (3.2), `prescan.rt` the changes (3.4.1). Then `planning.rt` copies the rows of the touched names
+//! into a small table, `changing.rt` makes all changes there (3.4.2), `serial.rt` raises the serial, and `differing.rt`
+//! compares before and after. An update of one name below the apex takes the shorter way of `single.rt`. `apply` puts
+//! such a plan into the rows (`applying.rt`), for which `check` has made room: it takes no memory.
+//!
+//! **Begin** with `specs/Updates` beside RFC 2136, 3.2 to 3.4: `refused_first` has the tests in their order,
+//! `changed_by` what one record changes. Then read `update_check.rt`.
+//!
+//! **Change.** How an update is planned is private: `specs/Touched`, `specs/Singles`, `specs/Changing` and
+//! `specs/Differing` are there for these proofs alone. `judged`, the order of its tests, and the limits that it names
+//! are cited by `history` and by the laws of `relay`. That `apply` needs no memory, once `check` has made room, is what
+//! `history` rests on.
+//!
+//! **Stand on it**: `history` (zones among the homes), `relay` (updates that zones accept), `scripts` (lines that make
+//! zones).
 #![tactic(auto)]
 
 mod agreeing;
