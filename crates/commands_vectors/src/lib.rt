@@ -3,7 +3,7 @@
 //!
 //! Nothing stands on this crate. `runs.rt` has the rows of commands with their texts and statuses. `faults.rt` lets
 //! each kind of call fail at its first time, then at its second, and so on until a run makes no more of them: a run
-//! must then end with the right status, and hand back what it opened. `objects.rt` makes the objects.
+//! must then end with the right status and text. `objects.rt` makes the objects.
 #![tactic(auto)]
 
 #[cfg(test)]

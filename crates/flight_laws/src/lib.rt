@@ -1,5 +1,5 @@
-//! Laws, no code: each step of a client, of its session or of the network between them keeps both consistent, so that
-//! the client never closes with an error and ends with what the server has.
+//! Laws, no code: each step of a client, of its session or of the octets between them keeps both consistent. So no
+//! message but a Retry Delay closes the client, and what it holds is what the server's history has.
 //!
 //! **Model.** The laws speak of plain clients, plain sessions and the octets between them. Each has the form: if
 //! `InFlight` (of `inflight`) holds before a step, it holds behind it. `specs/Laws` has octets that pass,

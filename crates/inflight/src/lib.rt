@@ -13,8 +13,8 @@
 //! wrong from there. Then read `specs/Flight`, a sentence at a time.
 //!
 //! **Change.** A sentence may be added where a law needs it: each step must then be shown to keep it (`flight_laws`),
-//! and a row below should show a world that it alone refuses. None may go without one of those worlds being let in.
-//! Bounds here are those of `push_base::limits`.
+//! and a row below should show a world that it alone refuses. Each of those worlds is refused by one sentence alone, so
+//! no such sentence may go. Bounds here are those of `push_base::limits`.
 //!
 //! **Stand on it**: `flight_laws` (all steps), `replay` (the promise `HoldsAfterEachLine` of a script's text),
 //! `script_laws` and `two_hubs`.

@@ -13,8 +13,8 @@
 //! **Begin** with `replay/specs/Promises`, which are the sentences, then `specs/Joined`.
 //!
 //! **Change.** Proofs are free, and no code is concerned. A further line of scripts, or call of the hub, has its cases
-//! here; docs/ARCHITECTURE.md lists them. `specs/Lines` says which lines are within bounds: nothing fails where it is
-//! wider than the reader, and something does where it is narrower.
+//! here; docs/ARCHITECTURE.md lists them. `specs/Lines` says which lines are within bounds, and
+//! `proofs/lines/ReadLines` shows that each line that is read is one.
 //!
 //! **Stand on it**: `two_hubs`, and `commands`, whose `run` cites three of these laws by calling them.
 #![tactic(auto)]

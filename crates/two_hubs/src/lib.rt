@@ -7,7 +7,7 @@
 //! show, `specs/Relaying` all of it together.
 //!
 //! **Flow.** There is none: this file names each law as a function without a body. A carry reads what a client of the
-//! first hub holds, and is an update of the second (`relay`), which the laws of `zoneupdate` show to be accepted.
+//! first hub holds, and is an update of the second (`relay`), which the laws of `relay` show to be accepted.
 //!
 //! **Begin** with `specs/Carrying`, then `specs/RelayLaws`.
 //!
