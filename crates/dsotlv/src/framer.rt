@@ -1,6 +1,6 @@
 //! Octets of a connection until they are whole messages (RFC 7766, 8).
 
-ghost use Rattle.std.specs.Prelude.{◌≡◌, ◌-◌, ◌<◌, ◌≤◌, ◌++◌, [], length, min, take, drop, slice_range, option_map, Some, None, IfOk, IfSome, IsSome, MatchOption};
+ghost use Rattle.std.specs.Prelude.{◌≡◌, ◌-◌, ◌<◌, ◌≤◌, ◌++◌, [], length, min, take, drop, slice_range, vec_capacity, option_map, Some, None, IfOk, IfSome, IsSome, MatchOption};
 ghost use Rattle.push_base.specs.Limits.{max_input};
 ghost use Rattle.rrset.specs.Header.{max_message};
 ghost use Rattle.dsotlv.specs.Messages.{first_message, max_frame};
@@ -20,21 +20,25 @@ pub const MAX_FRAME: usize = LENGTH + MAX_MESSAGE;
 
 /// Octets of a connection until they are whole messages (RFC 7766, 8): at most 69,633, which is a whole frame and
 /// 4,096 more. Its memory is taken once, with `new`.
+///
+/// Messages that were taken out stand in front of the others until the next piece comes: so a message that goes moves nothing.
 #[derive(Debug, Drop)]
 pub struct Framer {
     octets: Vec<u8>,
+    /// The octets of the messages that were taken out.
+    taken: usize,
 }
 
 impl Model for Framer {
-    ghost use Rattle.std.specs.Prelude.{ℕ, List, ◌≤◌};
+    ghost use Rattle.std.specs.Prelude.{ℕ, List, ◌≤◌, drop};
     ghost use Rattle.std.specs.Vec.{vec_len, vec_capacity};
     ghost use Rattle.push_base.specs.Limits.{max_input};
 
     ghost Value = { List ℕ };
 
-    ghost view = { λ f. f.octets.items };
+    ghost view = { λ f. drop f.taken f.octets.items };
 
-    ghost invariant = { λ f. (vec_len f.octets ≤ max_input) × (max_input ≤ vec_capacity f.octets) };
+    ghost invariant = { λ f. (f.taken ≤ vec_len f.octets) × (vec_len f.octets ≤ max_input) × (max_input ≤ vec_capacity f.octets) };
 }
 
 /// The place after the first message, where it is whole.
@@ -66,13 +70,26 @@ pub fn copy_front(octets: &[u8], buf: &mut [u8]) -> usize
     count
 }
 
+/// The octets in front go.
+fn drop_front(octets: &mut Vec<u8>, count: usize)
+    requires { count ≤ length octets.old.items }
+    ensures left { octets.new.items ≡ drop count octets.old.items }
+    ensures capacity { vec_capacity octets.old ≤ vec_capacity octets.new }
+{
+    if count == octets.len() {
+        octets.clear();
+    } else {
+        octets.drain(..count);
+    }
+}
+
 impl Framer {
     /// No octets yet.
     pub fn new(alloc: Global) -> Result<Self, NoMemory>
         ensures { IfOk result (λ framer. framer ≡ []) }
     {
         let octets = Vec::with_capacity(alloc, MAX_INPUT)?;
-        Ok(Framer { octets })
+        Ok(Framer { octets, taken: 0 })
     }
 
     /// Takes the longest front of a piece for which there is room, and gives its octets' number.
@@ -80,6 +97,10 @@ impl Framer {
         ensures count { result ≡ min (length piece.now) (max_input - length self.old) }
         ensures taken { self.new ≡ self.old ++ take (max_input - length self.old) piece.now }
     {
+        if self.taken > 0 {
+            drop_front(&mut self.octets, self.taken);
+            self.taken = 0;
+        }
         let room = MAX_INPUT - self.octets.len();
         let (front, _) = piece.split_at(piece.len().min(room));
         if self.octets.extend_from_slice(front).is_err() {
@@ -95,8 +116,9 @@ impl Framer {
         ensures most { IfSome result (λ message. length message.now ≤ max_message) }
         ensures room { result ≡ None → length self.now < max_frame }
     {
-        let end = first_end(&self.octets)?;
-        Some(&self.octets[LENGTH..end])
+        let octets = self.octets();
+        let end = first_end(octets)?;
+        Some(&octets[LENGTH..end])
     }
 
     /// Takes the first message out, with its length. What follows it stays.
@@ -105,9 +127,9 @@ impl Framer {
         ensures left { option_map (λ f. f.1) (first_message self.old) ≡ Some self.new }
         ensures shorter { length self.new < length self.old }
     {
-        match first_end(&self.octets) {
+        match first_end(self.octets()) {
             Some(end) => {
-                self.octets.drain(..end);
+                self.taken += end;
             }
             None => unreachable!(),
         }
@@ -118,6 +140,6 @@ impl Framer {
         ensures octets { result.now ≡ self.now }
         ensures most { length self.now ≤ max_input }
     {
-        &self.octets
+        &self.octets[self.taken..]
     }
 }
