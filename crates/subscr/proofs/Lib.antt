@@ -4,3 +4,4 @@ pub mod Noting
 pub mod AskedAt
 pub mod Questions
 pub mod Ids
+mod Ordered

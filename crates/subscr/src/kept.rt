@@ -1,14 +1,15 @@
 //! What is kept of questions beside their list, so that each is found by its ID and by its name.
 
-ghost use Rattle.std.specs.Prelude.{◌≡◌, [], false, not, option_map, find, OnOk, OnErr};
+ghost use Rattle.std.specs.Prelude.{◌≡◌, ◌||◌, [], false, not, option_map, find, OnOk, OnErr};
 ghost use Rattle.std.specs.List.{list_any};
 ghost use Rattle.push_base.specs.Cases.{is_empty};
+ghost use Rattle.rrset.specs.Kinds.{any_class, any_kind};
 ghost use Rattle.subscr.specs.ByName.{noted_at};
-ghost use Rattle.subscr.specs.Named.{Adds, IsSameKept, Removes, asks_for, is_asked};
+ghost use Rattle.subscr.specs.Named.{Adds, AreOrdered, IsSameKept, Removes, asks_for, is_asked, is_of};
 ghost use Rattle.subscr.specs.Watching.{is_in};
 
 use crate::NoMemory;
-use crate::named::{Ask, Named};
+use crate::named::{Ask, Named, compare_to};
 use dnsname::Name;
 use rrset::classes;
 use rrset::kinds::ANY;
@@ -17,14 +18,37 @@ use std::alloc::Global;
 use std::collections::BTreeSet;
 use std::marker::Model;
 
+/// Whether a question has this QTYPE and this QCLASS.
+fn has_kinds(asks: &[Ask], kind: u16, class: u16) -> bool
+    requires { AreOrdered asks.now }
+    ensures { result ≡ list_any (is_of kind class) asks.now }
+{
+    asks.binary_search_by(|ask| compare_to(ask, kind, class))
+        .is_ok()
+}
+
+/// Whether a question has this QTYPE, and this QCLASS or ANY.
+fn has_kind(asks: &[Ask], kind: u16, class: u16) -> bool
+    requires { AreOrdered asks.now }
+    ensures { result ≡ (list_any (is_of kind class) asks.now || list_any (is_of kind any_class) asks.now) }
+{
+    has_kinds(asks, kind, class) || has_kinds(asks, kind, classes::ANY)
+}
+
+/// Whether a question has this QTYPE or ANY, and this QCLASS or ANY.
+fn has_kind_or_any(asks: &[Ask], kind: u16, class: u16) -> bool
+    requires { AreOrdered asks.now }
+    ensures { result ≡ ((list_any (is_of kind class) asks.now || list_any (is_of kind any_class) asks.now) || (list_any (is_of any_kind class) asks.now || list_any (is_of any_kind any_class) asks.now)) }
+{
+    has_kind(asks, kind, class) || has_kind(asks, ANY, class)
+}
+
 /// Whether a question at the owner of a key asks for the key.
-fn asks_for(asks: &[Ask], key: &Key) -> bool
+pub(crate) fn asks_for(asks: &[Ask], key: &Key) -> bool
+    requires { AreOrdered asks.now }
     ensures { result ≡ list_any (asks_for key.now) asks.now }
 {
-    asks.iter().any(|ask| {
-        (ask.kind == key.kind || ask.kind == ANY)
-            && (ask.class == key.class || ask.class == classes::ANY)
-    })
+    has_kind_or_any(asks, key.kind, key.class)
 }
 
 /// The ID of a question among those at its name.

@@ -1,13 +1,15 @@
 //! Questions by name.
 
-ghost use Rattle.std.specs.Prelude.{◌≡◌, ◌++◌, ◌∷◌, [], true, IfOk, OnOk, OnErr, if◌then◌else◌};
+ghost use Rattle.std.specs.Prelude.{◌≡◌, ◌∷◌, [], true, IfOk, OnOk, OnErr, if◌then◌else◌};
+ghost use Rattle.std.specs.List.{position, position_or_len};
 ghost use Rattle.dnsname.specs.Names.{Labels, same_name};
 ghost use Rattle.subscr.specs.ByName.{Renoted, noted_at};
-ghost use Rattle.subscr.specs.Named.{without_ask};
+ghost use Rattle.subscr.specs.Named.{AreOrdered, comes_behind, kinds_cmp, kinds_of, with_ask, without_ask};
 
 use crate::NoMemory;
 use dnsname::Name;
 use std::alloc::Global;
+use std::cmp::Ordering;
 use std::collections::BTreeMap;
 use std::marker::Model;
 
@@ -22,7 +24,35 @@ pub(crate) struct Ask {
     pub id: u16,
 }
 
-/// The questions of one name, in the order in which they were added.
+/// The order of questions at a name, by QTYPE and then by QCLASS.
+pub(crate) fn compare_to(ask: &Ask, kind: u16, class: u16) -> Ordering
+    ensures { result ≡ kinds_cmp (kinds_of ask.now) (kind, class) }
+{
+    match ask.kind.cmp(&kind) {
+        Ordering::Equal => ask.class.cmp(&class),
+        unequal => unequal,
+    }
+}
+
+/// Where the first question is that comes behind another one.
+fn first_behind(asks: &[Ask], ask: &Ask) -> Option<usize>
+    ensures { result ≡ position (comes_behind ask.now) asks.now }
+{
+    asks.iter()
+        .position(|other| compare_to(other, ask.kind, ask.class).is_gt())
+}
+
+/// Where a question belongs: before the first that comes behind it.
+fn place_for(asks: &[Ask], ask: &Ask) -> usize
+    ensures { result ≡ position_or_len (comes_behind ask.now) asks.now }
+{
+    match first_behind(asks, ask) {
+        Some(place) => place,
+        None => asks.len(),
+    }
+}
+
+/// The questions of one name, in their order.
 #[derive(Debug, Drop)]
 struct Asks {
     items: Vec<Ask>,
@@ -30,11 +60,14 @@ struct Asks {
 
 impl Model for Asks {
     ghost use Rattle.std.specs.Prelude.{List};
+    ghost use Rattle.subscr.specs.Named.{AreOrdered};
     ghost use Rattle.subscr.specs.declared.named.Ask.{Ask};
 
     ghost Value = { List Ask };
 
     ghost view = { λ a. a.items.items };
+
+    ghost invariant = { λ a. AreOrdered a.items.items };
 }
 
 impl Asks {
@@ -47,12 +80,13 @@ impl Asks {
         Ok(Asks { items })
     }
 
-    /// One more behind the others.
+    /// One more in its place.
     fn add(&mut self, ask: Ask) -> Result<(), NoMemory>
-        ensures ok { OnOk result (self.new ≡ self.old ++ ask ∷ []) }
+        ensures ok { OnOk result (self.new ≡ with_ask ask self.old) }
         ensures err { OnErr result (self.new ≡ self.old) }
     {
-        self.items.push(ask)?;
+        let place = place_for(&self.items, &ask);
+        self.items.insert(place, ask)?;
         Ok(())
     }
 
@@ -108,7 +142,7 @@ impl Named {
 
     /// One more question of a name. Where memory runs out nothing changes.
     pub fn add(&mut self, name: Name, ask: Ask) -> Result<(), NoMemory>
-        ensures ok { OnOk result ((other : Labels) → noted_at other self.new ≡ (if same_name name other then noted_at other self.old ++ ask ∷ [] else noted_at other self.old)) }
+        ensures ok { OnOk result ((other : Labels) → noted_at other self.new ≡ (if same_name name other then with_ask ask (noted_at other self.old) else noted_at other self.old)) }
         ensures err { OnErr result (self.new ≡ self.old) }
     {
         match self.names.get_mut(&name) {
@@ -136,7 +170,8 @@ impl Named {
 
     /// What is asked of a name.
     pub fn at(&self, name: &Name) -> &[Ask]
-        ensures { result.now ≡ noted_at name.now self.now }
+        ensures noted { result.now ≡ noted_at name.now self.now }
+        ensures ordered { AreOrdered result.now }
     {
         match self.names.get(name) {
             Some(asks) => &asks.items,

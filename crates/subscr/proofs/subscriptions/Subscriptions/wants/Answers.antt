@@ -1,14 +1,12 @@
-use Rattle.std.proofs.Common.{List, ap, ◌∙◌}
-use Rattle.std.specs.List.{list_any}
+use Rattle.std.proofs.Common.{ap, ◌∙◌}
 use Rattle.subscr.specs.Asked.{wants}
-use Rattle.subscr.specs.Named.{asks_for}
-use Rattle.subscr.specs.declared.named.Ask.{Ask}
-use Rattle.subscr.proofs.AskedAt.{wants-kept}
+use Rattle.subscr.specs.Named.{asks_for, asks_of}
+use Rattle.subscr.proofs.AskedAt.{any-alike, wants-kept}
 use Rattle.subscr.proofs.subscriptions.Subscriptions.wants.Goals as goal
 
 pub returns : goal.returns
 returns c =
     c.wants.ensures
-    ∙ ap (λ (l : List Ask). list_any (asks_for c.args.key.now) l) (c.self.invariant.1.asks c.args.key.now.owner)
+    ∙ any-alike _ (asks_of c.args.key.now.owner c.self.inside.entries.items) (c.self.invariant.1.asks c.args.key.now.owner) (asks_for c.args.key.now)
     ∙ wants-kept c.args.key.now c.self.inside.entries.items
     ∙ ap (wants c.args.key.now) c.self.view_is

@@ -1,13 +1,15 @@
-use Rattle.std.proofs.Common.{List, not, ap, ◌∙◌}
-use Rattle.push_base.specs.Cases.{is_empty}
+use Rattle.std.proofs.Common.{true, ap, sym, ◌∙◌}
 use Rattle.subscr.specs.Asked.{watches}
-use Rattle.subscr.specs.declared.named.Ask.{Ask}
-use Rattle.subscr.proofs.AskedAt.{watches-kept}
+use Rattle.subscr.specs.Named.{asks_of}
+use Rattle.subscr.proofs.AskedAt.{any-alike, some-any, watches-kept}
 use Rattle.subscr.proofs.subscriptions.Subscriptions.watches.Goals as goal
 
 pub returns : goal.returns
 returns c =
+    let asks = asks_of c.args.name.now c.self.inside.entries.items in
     c.watches.ensures
-    ∙ ap (λ (l : List Ask). not (is_empty l)) (c.self.invariant.1.asks c.args.name.now)
+    ∙ some-any _
+    ∙ any-alike _ asks (c.self.invariant.1.asks c.args.name.now) (λ ask. true)
+    ∙ sym (some-any asks)
     ∙ watches-kept c.args.name.now c.self.inside.entries.items
     ∙ ap (watches c.args.name.now) c.self.view_is
