@@ -1,12 +1,11 @@
 -- Plans of moments: what all links show otherwise, and the links afterwards.
-use Rattle.std.proofs.Common.{◌≡◌, ℕ, ◌<◌, cond, List, [], ◌∷◌, map, fold, Some, refl, sym, ap, subst, ◌∙◌, lt-ltb}
-use Rattle.std.specs.Prelude.{flat_map}
+use Rattle.std.proofs.Common.{◌≡◌, ℕ, ◌<◌, cond, List, [], ◌∷◌, map, Some, refl, sym, ap, subst, ◌∙◌, lt-ltb}
 use Rattle.std.specs.List.{AllByRecursion, AllZip}
-use Rattle.rrset.specs.KeyedRows.{Rows}
 use Rattle.rrset.specs.RecordSet.{changes}
-use Rattle.rrset.specs.Tables.{HasLowerOwner}
+use Rattle.nametable.specs.Nodes.{HaveRisingKeys}
 use Rattle.rrset.specs.declared.record.Changed.{Changed}
-use Rattle.zoneupdate.proofs.Plans.{HaveLowerKeys, lower-changes}
+use Rattle.zoneupdate.proofs.Plans.{rising-changes}
+use Rattle.zoneupdate.proofs.RecordSets.{set-in_order}
 use Rattle.linkcache.specs.Links.{LinkState}
 use Rattle.linkcache.specs.Plans.{LinkPlan}
 use Rattle.linkcache.specs.Rows.{shown_rows}
@@ -14,7 +13,7 @@ use Rattle.linkcache.specs.Rows as rows
 use Rattle.history.specs.Kept.{held_for, told_plan}
 use Rattle.history.specs.Plans.{idle, accept, planned}
 use Rattle.history.specs.AtHome.{AreAtHome}
-use Rattle.history.specs.Laws.{IsLater, each_changed, gathered, with_change}
+use Rattle.history.specs.Laws.{IsLater, each_changed, gathered}
 use Rattle.history.specs.LinkSteps.{EndsBy}
 use Rattle.history.specs.HeldPlans.{links_changed}
 use Rattle.history.specs.States.{State, after, records, link_at_moment}
@@ -62,14 +61,13 @@ held-moment state t ps later each =
     held-made state (entries.Moment t) (record state { links = links_changed ps state.links; now = t }) (lt-ltb state.now t later)
     ((λ i. record state { links = links-reached t state.links ps each i; now = t }) ∙ sym (after-later state t later))
 
--- ---- the keys of a plan have their owners in lower case
+-- ---- the changes of a plan are in key order
 
-pub lower-each : (t : ℕ) (links : List LinkState) (ps : List LinkPlan) → AllZip (EndsBy t) links ps → AllByRecursion (λ p. AllByRecursion (λ c. HasLowerOwner c.key) p.changed) ps
-lower-each t [] [] each = tt
-lower-each t [] (p ∷ ps) each = absurd each
-lower-each t (l ∷ links) [] each = absurd each
-lower-each t (l ∷ links) (p ∷ ps) each = (subst HaveLowerKeys (sym each.0.shown) (lower-changes (shown_rows l.rules l.rows) (shown_rows l.rules (rows.at_moment l.rows t)) (set-shown l.rules l.rows) (set-shown l.rules (rows.at_moment l.rows t))), lower-each t links ps each.1)
-
--- the changes of plans, gathered one plan after the other
-abbrev pub rows_of : List LinkPlan → Rows Changed
-rows_of ps = fold with_change [] (flat_map (λ keys. keys) (keys_of ps))
+pub rising-each : (t : ℕ) (links : List LinkState) (ps : List LinkPlan) → AllZip (EndsBy t) links ps → AllByRecursion (λ p. HaveRisingKeys p.changed) ps
+rising-each t [] [] each = tt
+rising-each t [] (p ∷ ps) each = absurd each
+rising-each t (l ∷ links) [] each = absurd each
+rising-each t (l ∷ links) (p ∷ ps) each = (
+  subst HaveRisingKeys (sym each.0.shown) (rising-changes (shown_rows l.rules l.rows) (shown_rows l.rules (rows.at_moment l.rows t)) (set-in_order (shown_rows l.rules l.rows) (set-shown l.rules l.rows))),
+  rising-each t links ps each.1,
+)

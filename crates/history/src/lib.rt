@@ -25,6 +25,7 @@
 
 mod ahead;
 pub mod entry;
+mod gathering;
 mod homes;
 mod journal_replay;
 pub mod laws;

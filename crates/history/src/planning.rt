@@ -1,26 +1,27 @@
 //! What an entry will change, and the plan that is held for it.
 
-ghost use Rattle.std.specs.Prelude.{◌≡◌, ◌≤◌, ◌<◌, [], map, flat_map, fold, option_map, IfOk, IfSome, OnOk};
+ghost use Rattle.std.specs.Prelude.{◌≡◌, ◌≤◌, ◌<◌, map, option_map, IfOk, IfSome, OnOk};
 ghost use Rattle.std.specs.List.{AllByRecursion};
 ghost use Rattle.push_base.specs.Limits.{max_moment};
-ghost use Rattle.rrset.specs.Tables.{HasLowerOwner};
+ghost use Rattle.nametable.specs.Nodes.{HaveRisingKeys};
 ghost use Rattle.history.specs.Entries.{a_link, concern};
 ghost use Rattle.history.specs.Plans.{planned};
 ghost use Rattle.history.specs.declared.entry.Entry.TheVariants as entries;
 ghost use Rattle.history.specs.declared.planning.HeldPlan.TheVariants as plans;
 ghost use Rattle.history.specs.Kept.{at_moment, held_for, state_of, told_plan};
 ghost use Rattle.history.specs.AtHome.{AreAtHome};
-ghost use Rattle.history.specs.Laws.{gathered, with_change};
+ghost use Rattle.history.specs.Laws.{gathered};
 ghost use Rattle.history.specs.LinkSteps.{told_of};
 ghost use Rattle.history.specs.HeldPlans.{IsReady, IsTimely, led_by, led_to};
 
 use crate::entry::Entry;
+use crate::gathering::gathered_changes;
 use crate::homes::Homes;
-use crate::plan::{ChangedKeys, Planned, copy_change};
+use crate::plan::{ChangedKeys, Planned};
 use crate::updating::Checked;
 use dnswire::Update;
 use linkcache::HearPlan;
-use rrset::{Changed, Key, NoMemory, Table};
+use rrset::NoMemory;
 use std::alloc::Global;
 use zoneupdate::ZonePlan;
 
@@ -99,38 +100,12 @@ fn plan_of_step(
     told_and_held(alloc, link, plan)
 }
 
-/// Puts changed keys into a table.
-fn put_changes(table: &mut Table<Changed>, changed: &[Changed]) -> Result<(), NoMemory>
-    requires { AllByRecursion (λ c. HasLowerOwner c.key) changed.now }
-    ensures { OnOk result (table.new.rows ≡ fold with_change table.old.rows changed.now) }
-{
-    'changed: for change in changed {
-        table.put(change.key.copy()?, copy_change(change)?)?;
-    }
-    Ok(())
-}
-
-/// The values of rows, in their order.
-fn values_of(alloc: Global, rows: Vec<(Key, Changed)>) -> Result<Vec<Changed>, NoMemory>
-    ensures { IfOk result (λ values. values.items ≡ map (λ e. e.1) rows.items) }
-{
-    let mut values = Vec::with_capacity(alloc, rows.len())?;
-    'rows: for (_, change) in rows {
-        values.push(change)?;
-    }
-    Ok(values)
-}
-
 /// The changed keys of all of some plans, in key order.
 fn gathered(alloc: Global, plans: &[HearPlan]) -> Result<ChangedKeys, NoMemory>
-    requires { AllByRecursion (λ p. AllByRecursion (λ c. HasLowerOwner c.key) p.changed) plans.now }
+    requires { AllByRecursion (λ p. HaveRisingKeys p.changed) plans.now }
     ensures { IfOk result (λ keys. keys ≡ gathered (map (λ p. p.changed) plans.now)) }
 {
-    let mut table = Table::new(alloc);
-    'plans: for plan in plans {
-        put_changes(&mut table, plan.changed())?;
-    }
-    let items = values_of(alloc, table.into_entries())?;
+    let items = gathered_changes(alloc, plans)?;
     Ok(ChangedKeys { items })
 }
 

@@ -1,15 +1,15 @@
 -- A later moment changes what each link shows otherwise then.
 use Rattle.std.proofs.Common.{◌∙◌, ap, sym, subst}
 use Rattle.std.specs.List.{AllByRecursion}
-use Rattle.rrset.specs.Tables.{HasLowerOwner}
+use Rattle.nametable.specs.Nodes.{HaveRisingKeys}
 use Rattle.history.specs.Laws.{gathered}
 use Rattle.history.specs.Kept.{state_of, at_moment}
-use Rattle.history.proofs.MomentPlans.{keys_of, lower-each, told-moment, held-moment}
+use Rattle.history.proofs.MomentPlans.{keys_of, rising-each, told-moment, held-moment}
 use Rattle.history.proofs.planning.plan_of_moment.Goals as goal
 
 pub gathered-requires : goal.gathered-requires
 gathered-requires c =
-    subst (AllByRecursion (λ p. AllByRecursion (λ k. HasLowerOwner k.key) p.changed)) (sym c.deref.ensures.value) (lower-each c.args.later (state_of c.args.homes.now).links c.in_ok-plans.plans.items c.in_ok-plans.ensures.plans)
+    subst (AllByRecursion (λ p. HaveRisingKeys p.changed)) (sym c.deref.ensures.value) (rising-each c.args.later (state_of c.args.homes.now).links c.in_ok-plans.plans.items c.in_ok-plans.ensures.plans)
 
 pub returns-clause-planned : goal.returns-clause-planned
 returns-clause-planned c =
