@@ -1,20 +1,20 @@
 -- The records of a kind among those of a name, and the sets that prerequisites of class IN name.
-use Rattle.std.proofs.Common.{◌≡◌, ℕ, Bool, true, false, cond, not, ◌&&◌, ◌||◌, List, [], ◌∷◌, map, filter, refl, sym, ap, ◌∙◌}
+use Rattle.std.proofs.Common.{◌≡◌, ℕ, Bool, true, false, cond, not, ◌&&◌, ◌||◌, List, [], ◌∷◌, filter, refl, sym, ap, ◌∙◌}
 use Rattle.std.specs.Prelude.{◌==◌}
-use Rattle.std.specs.List.{list_any, list_all}
+use Rattle.std.specs.List.{list_any}
 use Rattle.std.proofs.lemmas.Bool.{eq-eqb, eqb-true}
 use Rattle.push_base.specs.Cases.{is_empty}
 use Rattle.dnsname.specs.Names.{Labels, octets, lower, same_name}
 use Rattle.std.specs.Str.{bytes_eq}
 use Rattle.rrset.specs.Kinds.{in_class}
 use Rattle.rrset.specs.Records.{key_of}
-use Rattle.rrset.specs.RecordSet.{RecordSet, only, at_name, set_of, same_keys, is_of_rrset}
+use Rattle.rrset.specs.RecordSet.{RecordSet, only, at_name, set_of, is_of_rrset}
 use Rattle.rrset.specs.declared.record.Rr.{Rr}
 use Rattle.rrset.specs.declared.record.Key.{Key}
 use Rattle.rrset.proofs.Selected.{only-set_of}
 use Rattle.zoneupdate.specs.Zones.{set_at}
-use Rattle.zoneupdate.specs.Checking.{is_in, is_of_kind, has_same_set}
-use Rattle.zoneupdate.specs.Updates.{with_counted_ttl, set_wanted, sets_agree}
+use Rattle.zoneupdate.specs.Checking.{is_in, is_of_kind}
+use Rattle.zoneupdate.specs.Updates.{set_wanted}
 use Rattle.zoneupdate.proofs.Filters.{filter_same, filter_twice, same_truth}
 use Rattle.zoneupdate.proofs.Owners.{same_name-back}
 use Rattle.rrset.proofs.LowerNames.{lower-twice}
@@ -34,19 +34,6 @@ any-only p (e ∷ es) = by (any-only p es) (p e.0)
     by : list_any (λ e. p e.0) es ≡ not (is_empty (only p es)) → (b : Bool) → (b || list_any (λ e. p e.0) es) ≡ not (is_empty (cond b (e ∷ only p es) (only p es)))
     by rest true = refl
     by rest false = rest
-
--- there are records of the kind where one of those of the name has it
-pub any-set : (owner : Labels) (kind : ℕ) (rows : RecordSet) → list_any (λ e. is_of_kind kind e.0) (at_name owner rows) ≡ not (is_empty (set_at owner kind rows))
-any-set owner kind rows = any-only (is_of_kind kind) (at_name owner rows) ∙ ap (λ set. not (is_empty set)) (sym (set_at-named owner kind rows))
-
--- the sets of a name and kind in two tables, by the records of the name
-pub same_kind-set : (owner : Labels) (kind : ℕ) (first second a b : RecordSet) (r : Bool) → a ≡ at_name owner first → b ≡ at_name owner second
-    → r ≡ same_keys (only (is_of_kind kind) a) (only (is_of_kind kind) b) → r ≡ same_keys (set_at owner kind first) (set_at owner kind second)
-same_kind-set owner kind first second a b r at_first at_second is =
-    is ∙ ap (λ x. same_keys (only (is_of_kind kind) x) (only (is_of_kind kind) b)) at_first
-    ∙ ap (λ y. same_keys (only (is_of_kind kind) (at_name owner first)) (only (is_of_kind kind) y)) at_second
-    ∙ ap (λ x. same_keys x (only (is_of_kind kind) (at_name owner second))) (sym (set_at-named owner kind first))
-    ∙ ap (λ y. same_keys (set_at owner kind first) y) (sym (set_at-named owner kind second))
 
 -- ---- what prerequisites of class IN ask for
 
@@ -77,14 +64,3 @@ wanted-set prereqs rr =
     ∙ filter_same (λ p. is_of_rrset rr.owner in_class rr.kind (key_of p) && is_in p) (λ p. p.class == in_class && same_name p.owner rr.owner && p.kind == rr.kind)
     (λ p. four (same_name rr.owner (lower p.owner)) (same_name p.owner rr.owner) (in_class == p.class) (p.class == in_class) (rr.kind == p.kind) (p.kind == rr.kind)
     (owner-turned rr.owner p.owner) (equal-turned in_class p.class) (equal-turned rr.kind p.kind)) prereqs)
-
--- a TTL is no matter for this
-all-same : (f g : Rr → Bool) → ((rr : Rr) → f rr ≡ g (with_counted_ttl rr)) → (rrs : List Rr) → list_all f rrs ≡ list_all g (map with_counted_ttl rrs)
-all-same f g same [] = refl
-all-same f g same (rr ∷ rrs) = ap (λ b. b && list_all f rrs) (same rr) ∙ ap (λ b. g (with_counted_ttl rr) && b) (all-same f g same rrs)
-
-pub all-agree : (prereqs : List Rr) (rows : RecordSet) → list_all (has_same_set (set_of (filter is_in (map with_counted_ttl prereqs))) rows) prereqs ≡ sets_agree (map with_counted_ttl prereqs) rows
-all-agree prereqs rows =
-    all-same (has_same_set (set_of (filter is_in (map with_counted_ttl prereqs))) rows)
-    (λ rr. not (rr.class == in_class) || same_keys (set_wanted (map with_counted_ttl prereqs) rr) (set_at rr.owner rr.kind rows))
-    (λ rr. ap (λ (set : RecordSet). not (rr.class == in_class) || same_keys set (set_at rr.owner rr.kind rows)) (wanted-set (map with_counted_ttl prereqs) (with_counted_ttl rr))) prereqs

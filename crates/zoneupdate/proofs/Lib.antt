@@ -2,6 +2,8 @@ pub mod KindSets
 pub mod Refusals
 pub mod SerialPlace
 pub mod OneName
+pub mod SetPlaces
+pub mod ComparedOnce
 pub mod ByClass
 pub mod RisenEntry
 pub mod NextSerial

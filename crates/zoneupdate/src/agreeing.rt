@@ -1,15 +1,15 @@
 //! Whether the sets that prerequisites of class IN name are the zone's (RFC 2136, 3.2.3).
 
-ghost use Rattle.std.specs.Prelude.{◌≡◌, ◌∷◌, ◌&&◌, [], map, filter, IfOk, MatchOption};
+ghost use Rattle.std.specs.Prelude.{◌≡◌, ◌∷◌, ◌&&◌, [], map, filter, IfOk, IsTrue, MatchOption};
 ghost use Rattle.std.specs.List.{list_all};
 ghost use Rattle.rrset.specs.Records.{same_key, same_shown};
-ghost use Rattle.rrset.specs.RecordSet.{only, set_of, same_keys, same_rows};
+ghost use Rattle.rrset.specs.RecordSet.{only, set_of, same_keys, same_rows, is_record_set};
 ghost use Rattle.zoneupdate.specs.Zones.{set_at};
-ghost use Rattle.zoneupdate.specs.Checking.{is_in, is_of_kind, has_same_set};
+ghost use Rattle.zoneupdate.specs.Checking.{is_in, is_of_kind, has_same_set, IsOfSameSet, LastAgrees};
 ghost use Rattle.zoneupdate.specs.Updates.{sets_agree, with_counted_ttl};
 
 use crate::changing::shown_of;
-use crate::sets::is_of_rrset;
+use crate::sets::{is_of_rrset, set_among};
 use dnsname::Name;
 use nametable::NameTable;
 use rrset::classes::IN;
@@ -99,21 +99,52 @@ pub(crate) fn have_same_rows(
     next_of_rrset(owner, kind, others).is_none()
 }
 
-/// Whether the set of a record's owner and kind has the same keys in two tables.
-fn have_same_set(wanted: &Table, rows: &NameTable, rr: &Rr) -> bool
-    ensures { result ≡ same_keys (set_at rr.now.owner rr.now.kind wanted.now.rows) (set_at rr.now.owner rr.now.kind rows.now.rows) }
+/// Whether the set of a key's owner and kind has the same keys in two tables.
+fn have_same_set(wanted: &Table, rows: &NameTable, key: &Key) -> bool
+    requires { IsTrue (is_record_set rows.now.rows) }
+    ensures { result ≡ has_same_set wanted.now.rows rows.now.rows key.now }
 {
-    have_same_kind(rr.kind, wanted.at(&rr.owner), rows.at(&rr.owner))
+    let first = set_among(&key.owner, key.kind, wanted.entries());
+    let second = set_among(&key.owner, key.kind, rows.at(&key.owner));
+    have_same_kind(key.kind, first, second)
 }
 
-/// Whether each set of class IN that prerequisites name has the same keys in two tables.
-fn all_have_same_set(wanted: &Table, rows: &NameTable, prereqs: &Rrs) -> bool
-    ensures { result ≡ list_all (has_same_set wanted.now.rows rows.now.rows) prereqs.now }
+/// Whether a key is of the owner and kind of the first of some records.
+fn is_of_same_set(last: &[(Key, Shown)], key: &Key) -> bool
+    ensures { IsTrue result → IsOfSameSet last.now key.now }
 {
-    'prereqs: for rr in prereqs.as_slice() {
-        if rr.class == IN && !have_same_set(wanted, rows, rr) {
+    match last.split_first() {
+        Some((entry, _)) => entry.0.kind == key.kind && entry.0.owner.same(&key.owner),
+        None => false,
+    }
+}
+
+/// Whether the set of a key's owner and kind has the same keys in two tables, where the set of the record before it has.
+fn agrees_behind(last: &[(Key, Shown)], wanted: &Table, rows: &NameTable, key: &Key) -> bool
+    requires set { IsTrue (is_record_set rows.now.rows) }
+    requires last { LastAgrees wanted.now.rows rows.now.rows last.now }
+    ensures { result ≡ has_same_set wanted.now.rows rows.now.rows key.now }
+{
+    if is_of_same_set(last, key) {
+        return true;
+    }
+    have_same_set(wanted, rows, key)
+}
+
+/// Whether each set of a table has the same keys in another. Keys of one owner and kind stand together, so each set is
+/// compared once.
+fn all_have_same_set(wanted: &Table, rows: &NameTable) -> bool
+    requires { IsTrue (is_record_set rows.now.rows) }
+    ensures { result ≡ list_all (λ e. has_same_set wanted.now.rows rows.now.rows e.0) wanted.now.rows }
+{
+    let mut last: &[(Key, Shown)] = &[];
+    let mut rest = wanted.entries();
+    'sets: while let Some((entry, after)) = rest.split_first() {
+        if !agrees_behind(last, wanted, rows, &entry.0) {
             return false;
         }
+        last = rest;
+        rest = after;
     }
     true
 }
@@ -133,8 +164,9 @@ fn wanted(alloc: Global, prereqs: &Rrs) -> Result<Table, NoMemory>
 
 /// Whether each set that prerequisites of class IN name is the zone's.
 pub(crate) fn sets_agree(alloc: Global, prereqs: &Rrs, rows: &NameTable) -> Result<bool, NoMemory>
+    requires { IsTrue (is_record_set rows.now.rows) }
     ensures { IfOk result (λ agree. agree ≡ sets_agree (map with_counted_ttl prereqs.now) rows.now.rows) }
 {
     let wanted = wanted(alloc, prereqs)?;
-    Ok(all_have_same_set(&wanted, rows, prereqs))
+    Ok(all_have_same_set(&wanted, rows))
 }

@@ -1,10 +1,10 @@
 //! The prerequisites of an update (RFC 2136, 3.2).
 
-ghost use Rattle.std.specs.Prelude.{◌≡◌, List, Bool, not, map};
+ghost use Rattle.std.specs.Prelude.{◌≡◌, List, Bool, not, map, IsTrue};
 ghost use Rattle.std.specs.List.{list_any};
 ghost use Rattle.push_base.specs.Cases.{first_refused, is_empty};
 ghost use Rattle.dnsname.specs.Names.{Labels};
-ghost use Rattle.rrset.specs.RecordSet.{at_name};
+ghost use Rattle.rrset.specs.RecordSet.{at_name, is_record_set};
 ghost use Rattle.zoneupdate.specs.Zones.{set_at};
 ghost use Rattle.zoneupdate.specs.Checking.{is_of_kind};
 ghost use Rattle.zoneupdate.specs.Updates.{prerequisite_refusal, with_counted_ttl};
@@ -14,6 +14,7 @@ use crate::agreeing::is_of_kind;
 use crate::changing::counted_ttl;
 use crate::plan::Under;
 use crate::refusing::{first_refusal, is_empty, is_inside};
+use crate::sets::set_among;
 use dnsname::Name;
 use nametable::NameTable;
 use rrset::classes::{ANY, IN, NONE};
@@ -29,9 +30,10 @@ fn has_kind(named: &[(Key, Shown)], kind: u16) -> bool
 
 /// Whether the zone has records of a name and kind.
 fn has_set(rows: &NameTable, owner: &Name, kind: u16) -> bool
+    requires { IsTrue (is_record_set rows.now.rows) }
     ensures { result ≡ not (is_empty (set_at owner.now kind rows.now.rows)) }
 {
-    has_kind(rows.at(owner), kind)
+    has_kind(set_among(owner, kind, rows.at(owner)), kind)
 }
 
 /// Whether the zone has records of a name.
@@ -43,6 +45,7 @@ fn has_name(rows: &NameTable, owner: &Name) -> bool
 
 /// The RCODE that a prerequisite is refused with.
 fn refusal(rows: &NameTable, apex: &Name, under: &Under, rr: &Rr) -> Option<u8>
+    requires { IsTrue (is_record_set rows.now.rows) }
     ensures { (homes : List Labels) (writable : Bool) → IsUnder homes apex.now under.now → result ≡ prerequisite_refusal homes (record { apex = apex.now; writable = writable; rows = rows.now.rows }) (with_counted_ttl rr.now) }
 {
     let inside = is_inside(apex, under, &rr.owner);
@@ -73,6 +76,7 @@ pub(crate) fn prerequisites_refusal(
     under: &Under,
     prereqs: &Rrs,
 ) -> Option<u8>
+    requires { IsTrue (is_record_set rows.now.rows) }
     ensures { (homes : List Labels) (writable : Bool) → IsUnder homes apex.now under.now → result ≡ first_refused (prerequisite_refusal homes (record { apex = apex.now; writable = writable; rows = rows.now.rows })) (map with_counted_ttl prereqs.now) }
 {
     'prereqs: for rr in prereqs.as_slice() {

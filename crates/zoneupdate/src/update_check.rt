@@ -33,6 +33,7 @@ pub(crate) fn refused_first(
     update: &Update,
     under: &Under,
 ) -> Result<Option<u8>, NoMemory>
+    requires { IsTrue (is_record_set rows.now.rows) }
     ensures { IfOk result (λ code. (homes : List Labels) → IsUnder homes apex.now under.now → code ≡ refused_first homes (record { apex = apex.now; writable = writable; rows = rows.now.rows }) update.now) }
 {
     if let Some(code) = prerequisites_refusal(rows, apex, under, &update.prereqs) {
