@@ -1,8 +1,8 @@
 -- A change looks at one name alone, and changes it alone.
-use Rattle.std.proofs.Common.{◌≡◌, ℕ, Bool, true, false, not, ◌&&◌, ◌||◌, List, [], ◌∷◌, Some, None, option_and_then, ◌==◌, refl, sym, ap, ◌∙◌}
-use Rattle.push_base.specs.Cases.{is_empty}
+use Rattle.std.proofs.Common.{◌≡◌, ℕ, Bool, true, false, not, ◌&&◌, ◌||◌, List, [], ◌∷◌, Some, None, option_and_then, ◌==◌, refl, sym, ap, subst, ◌∙◌}
+use Rattle.push_base.specs.Cases.{chosen, is_empty}
 use Rattle.dnsname.specs.Names.{Labels, same_name}
-use Rattle.rrset.specs.Kinds.{in_class, any_class, any_kind, cname_kind, soa_kind, ns_kind}
+use Rattle.rrset.specs.Kinds.{in_class, any_class, none_class, any_kind, cname_kind, soa_kind, ns_kind}
 use Rattle.rrset.specs.Records.{key_of, shown_of, same_key}
 use Rattle.rrset.specs.RecordSet.{RecordSet, is_of_rrset, put_rr, without, only}
 use Rattle.rrset.specs.declared.record.Rr.{Rr}
@@ -11,7 +11,7 @@ use Rattle.rrset.proofs.InOrder.{InOrder, in_order-put, in_order-without}
 use Rattle.rrset.proofs.Selected.{fails, only-put-passed, only-put-failed}
 use Rattle.rrset.proofs.SameRows.{same_key-same}
 use Rattle.zoneupdate.specs.Zones.{set_at, serial_of, serial_is_greater, first_shown}
-use Rattle.zoneupdate.specs.Updates.{as_class_in, is_only, is_newer_soa, changed_by}
+use Rattle.zoneupdate.specs.Updates.{as_class_in, is_only, is_newer_soa, after_addition, after_set_deletion, after_record_deletion, changed_by}
 use Rattle.zoneupdate.proofs.Filters.{and-left, filter_swap, filter_within, filter_outside}
 use Rattle.zoneupdate.proofs.Owners.{Covers, covers-key_of, of_rrset-owner, same_name-lower}
 use Rattle.zoneupdate.proofs.Tables.{Agree, chosen-agree, chosen-holds}
@@ -43,9 +43,37 @@ cases_of apex rr rows =
     ∷ (rr.class == any_class && rr.kind == any_kind, without (of_all apex rr) rows)
     ∷ (rr.class == any_class && same_name rr.owner apex && (rr.kind == soa_kind || rr.kind == ns_kind), rows)
     ∷ (rr.class == any_class, without (of_set rr) rows)
-    ∷ (rr.kind == soa_kind, rows)
-    ∷ (same_name rr.owner apex && rr.kind == ns_kind && is_only (as_class_in rr) (set_at rr.owner ns_kind rows), rows)
+    ∷ (rr.class == none_class && rr.kind == soa_kind, rows)
+    ∷ (rr.class == none_class && (same_name rr.owner apex && rr.kind == ns_kind && is_only (as_class_in rr) (set_at rr.owner ns_kind rows)), rows)
+    ∷ (rr.class == none_class, without (of_record rr) rows)
     ∷ []
+
+-- the three tables in one, by three tests of the class
+pub changed_by-cases : (apex : Labels) (rr : Rr) (rows : RecordSet) → changed_by apex rows rr ≡ chosen (cases_of apex rr rows) rows
+changed_by-cases apex rr rows = by (rr.class == in_class) (rr.class == any_class) (rr.class == none_class)
+  where
+    flat : Bool → Bool → Bool → List (Bool × RecordSet)
+    flat adds takes drops =
+        (adds && rr.kind == cname_kind && not (is_empty (only (of_others rr) rows)), rows)
+        ∷ (adds && rr.kind == cname_kind, put_rr (without (of_set rr) rows) rr)
+        ∷ (adds && not (is_empty (set_at rr.owner cname_kind rows)), rows)
+        ∷ (adds && rr.kind == soa_kind && is_newer_soa rr rows, put_rr (without (of_set rr) rows) rr)
+        ∷ (adds && rr.kind == soa_kind, rows)
+        ∷ (adds, put_rr rows rr)
+        ∷ (takes && rr.kind == any_kind, without (of_all apex rr) rows)
+        ∷ (takes && same_name rr.owner apex && (rr.kind == soa_kind || rr.kind == ns_kind), rows)
+        ∷ (takes, without (of_set rr) rows)
+        ∷ (drops && rr.kind == soa_kind, rows)
+        ∷ (drops && (same_name rr.owner apex && rr.kind == ns_kind && is_only (as_class_in rr) (set_at rr.owner ns_kind rows)), rows)
+        ∷ (drops, without (of_record rr) rows)
+        ∷ []
+
+    by : (adds takes drops : Bool)
+        → chosen ((adds, after_addition rows rr) ∷ (takes, after_set_deletion apex rows rr) ∷ (drops, after_record_deletion apex rows rr) ∷ []) rows ≡ chosen (flat adds takes drops) rows
+    by true takes drops = refl
+    by false true drops = refl
+    by false false true = refl
+    by false false false = refl
 
 -- the serial of the record is greater than that of the first of these
 abbrev pub newer_than : Rr → RecordSet → Bool
@@ -81,7 +109,10 @@ outside-without p q within rows = filter_outside (λ e. p e.0) (λ e. q e.0) (λ
 -- ---- the change of a part, and the part that stays
 
 pub changed_by-only : (p : Key → Bool) (apex : Labels) (rr : Rr) (rows : RecordSet) → Covers p rr.owner → InOrder rows → only p (changed_by apex rows rr) ≡ changed_by apex (only p rows) rr
-changed_by-only p apex rr rows covers sorted = chosen-agree (only p) (cases_of apex rr rows) (cases_of apex rr (only p rows)) (without (of_record rr) rows) (without (of_record rr) (only p rows)) agree (only-without p (of_record rr) rows)
+changed_by-only p apex rr rows covers sorted =
+    ap (only p) (changed_by-cases apex rr rows)
+    ∙ chosen-agree (only p) (cases_of apex rr rows) (cases_of apex rr (only p rows)) rows (only p rows) agree refl
+    ∙ sym (changed_by-cases apex rr (only p rows))
   where
     others : only (of_others rr) rows ≡ only (of_others rr) (only p rows)
     others = sym (only-within p (of_others rr) (others-covered p rr covers) rows)
@@ -117,8 +148,8 @@ changed_by-only p apex rr rows covers sorted = chosen-agree (only p) (cases_of a
                       (
                         (refl, refl),
                         (
-                          (ap (λ (s : RecordSet). same_name rr.owner apex && rr.kind == ns_kind && is_only (as_class_in rr) s) (set ns_kind), refl),
-                          tt,
+                          (ap (λ (s : RecordSet). rr.class == none_class && (same_name rr.owner apex && rr.kind == ns_kind && is_only (as_class_in rr) s)) (set ns_kind), refl),
+                          ((refl, only-without p (of_record rr) rows), tt),
                         ),
                       ),
                     ),
@@ -137,7 +168,7 @@ pub changed_by-outcome : (P : RecordSet → Type 0) (apex : Labels) (rr : Rr) (r
     → ((rr.class == in_class) ≡ true → P (put_rr (without (of_set rr) rows) rr))
     → ((t : Key → Bool) → ((p : Key → Bool) → Covers p rr.owner → (key : Key) → t key ≡ true → p key ≡ true) → P (without t rows))
     → P (changed_by apex rows rr)
-changed_by-outcome P apex rr rows same added replaced taken = chosen-holds P (cases_of apex rr rows) (without (of_record rr) rows) (
+changed_by-outcome P apex rr rows same added replaced taken = subst P (sym (changed_by-cases apex rr rows)) (chosen-holds P (cases_of apex rr rows) rows (
   λ _. same,
   λ _. (
     λ e. replaced (and-left _ _ (e)),
@@ -159,7 +190,7 @@ changed_by-outcome P apex rr rows same added replaced taken = chosen-holds P (ca
                     λ _. same,
                     λ _. (
                       λ _. same,
-                      λ _. taken (of_record rr) (λ p covers. record-covered p rr covers),
+                      λ _. (λ _. taken (of_record rr) (λ p covers. record-covered p rr covers), λ _. same),
                     ),
                   ),
                 ),
@@ -170,7 +201,7 @@ changed_by-outcome P apex rr rows same added replaced taken = chosen-holds P (ca
       ),
     ),
   ),
-)
+))
 
 pub changed_by-outside : (p : Key → Bool) (apex : Labels) (rr : Rr) (rows : RecordSet) → Covers p rr.owner → InOrder rows → only (fails p) (changed_by apex rows rr) ≡ only (fails p) rows
 changed_by-outside p apex rr rows covers sorted =

@@ -1,9 +1,9 @@
 -- A zone keeps just one SOA at its apex, from which a serial is read, and class IN alone.
 --     one_soa soas      there is one record, and a serial is read from it
-use Rattle.std.proofs.Common.{◌≡◌, ℕ, Bool, true, false, cond, not, ◌&&◌, ◌||◌, [], ◌∷◌, length, Option, Some, None, is_some, option_and_then, ◌==◌, refl, sym, ap, ◌∙◌, eqb-true, eq-eqb, arith}
+use Rattle.std.proofs.Common.{◌≡◌, ℕ, Bool, true, false, cond, not, ◌&&◌, ◌||◌, [], ◌∷◌, length, Option, Some, None, is_some, option_and_then, ◌==◌, refl, sym, ap, subst, ◌∙◌, eqb-true, eq-eqb, arith}
 use Rattle.std.specs.List.{list_all}
 use Rattle.dnsname.specs.Names.{Labels, lower, same_name}
-use Rattle.rrset.specs.Kinds.{in_class, any_class, cname_kind, soa_kind, ns_kind}
+use Rattle.rrset.specs.Kinds.{in_class, any_class, none_class, cname_kind, soa_kind, ns_kind}
 use Rattle.rrset.specs.Records.{key_of, shown_of}
 use Rattle.rrset.specs.RecordSet.{RecordSet, is_of_rrset, put_rr, without, only, put}
 use Rattle.rrset.specs.declared.record.Rr.{Rr}
@@ -18,7 +18,7 @@ use Rattle.zoneupdate.proofs.Filters.{not_both, and-left, and-right, and-both, f
 use Rattle.zoneupdate.proofs.SomeAndAll.{all-filter}
 use Rattle.zoneupdate.proofs.Owners.{same_name-back, same_name-on, same_name-lower}
 use Rattle.zoneupdate.proofs.Tables.{chosen-holds}
-use Rattle.zoneupdate.proofs.ChangedParts.{of_set, of_all, of_record, cases_of, newer_than, changed_by-outcome}
+use Rattle.zoneupdate.proofs.ChangedParts.{of_set, of_all, of_record, cases_of, newer_than, changed_by-cases, changed_by-outcome}
 use Rattle.zoneupdate.proofs.RecordSets.{all-put}
 
 -- ---- class IN alone
@@ -151,7 +151,7 @@ apart-record apex rr other key is e =
     other (ap (λ (k : Key). k.kind) (same_key-same (key_of (as_class_in rr)) key e) ∙ soa-kind apex key is)
 
 pub one_soa-changed_by : (apex : Labels) (rr : Rr) (rows : RecordSet) → InOrder rows → HasOneSoa apex rows → HasOneSoa apex (changed_by apex rows rr)
-one_soa-changed_by apex rr rows sorted one = chosen-holds (HasOneSoa apex) (cases_of apex rr rows) (without (of_record rr) rows) (
+one_soa-changed_by apex rr rows sorted one = subst (HasOneSoa apex) (sym (changed_by-cases apex rr rows)) (chosen-holds (HasOneSoa apex) (cases_of apex rr rows) rows (
   λ _. one,
   λ _. (
     λ e. kept _ (soas-replaced apex rr rows sorted (λ _. cname_no_soa rr (and-right _ _ e))),
@@ -173,7 +173,10 @@ one_soa-changed_by apex rr rows sorted one = chosen-holds (HasOneSoa apex) (case
                     λ _. one,
                     λ not_soa. (
                       λ _. one,
-                      λ _. kept _ (apart-without (is_soa_at apex) (of_record rr) (apart-record apex rr (other_kind rr not_soa)) rows),
+                      λ _. (
+                        λ class. kept _ (apart-without (is_soa_at apex) (of_record rr) (apart-record apex rr (other_kind rr (second_false (rr.class == none_class) (rr.kind == soa_kind) class not_soa))) rows),
+                        λ _. one,
+                      ),
                     ),
                   ),
                 ),
@@ -184,7 +187,7 @@ one_soa-changed_by apex rr rows sorted one = chosen-holds (HasOneSoa apex) (case
       ),
     ),
   ),
-)
+))
   where
     kept : (soas : RecordSet) → soas ≡ set_at apex soa_kind rows → one_soa soas ≡ true
     kept soas same = ap one_soa same ∙ one

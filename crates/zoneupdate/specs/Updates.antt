@@ -2,6 +2,7 @@
 --     judged homes zone update      the rows after the update, or the RCODE that refuses it; homes are all names of zones and links
 --     refused_first homes zone update      the RCODE that refuses an update before its changes are made
 --     prerequisite_refusal, change_refusal homes zone rr      the RCODE that a prerequisite or a change is refused with
+--     after_addition, after_set_deletion, after_record_deletion      the rows after a change of class IN, ANY, NONE
 --     changed_by apex rows rr      the rows after one change
 use Rattle.std.specs.Prelude.{ℕ, ◌+◌, ◌%◌, ◌^◌, Bool, false, not, ◌&&◌, ◌||◌, List, [], ◌∷◌, map, length, filter, fold, Option, Some, None, Result, Ok, Err, nat_le, ◌==◌, option_and_then, if◌then◌else◌}
 use Rattle.std.specs.List.{list_all}
@@ -71,29 +72,56 @@ is_newer_soa rr rows = elim (option_and_then (λ shown. serial_of shown.rdata) (
   | Some old ↦ elim (serial_of rr.rdata) [ None ↦ false | Some new ↦ serial_is_greater new old ]
 ]
 
--- the rows after one change (RFC 2136, 3.4.2); that WKS is added as any other kind is this project's own
-abbrev pub changed_by : Labels → RecordSet → Rr → RecordSet
-changed_by apex rows rr =
-    let at_apex = same_name rr.owner apex in
-    let keeps_zone = rr.kind == soa_kind || rr.kind == ns_kind in
+-- class IN, the zone's own: the record is added to an RRset (RFC 2136, 3.4.2.2); that WKS is added as any other kind is this project's own
+abbrev pub after_addition : RecordSet → Rr → RecordSet
+after_addition rows rr =
     let of_set : Key → Bool = is_of_rrset rr.owner in_class rr.kind in
     let other_kinds = only (λ key. same_name rr.owner key.owner && not (key.kind == rr.kind)) rows in
     chosen (
-    -- an alias stands alone at its name
-    (rr.class == in_class && rr.kind == cname_kind && not (is_empty other_kinds), rows)
-    ∷ (rr.class == in_class && rr.kind == cname_kind, put_rr (without of_set rows) rr)
-    ∷ (rr.class == in_class && not (is_empty (set_at rr.owner cname_kind rows)), rows)
-    -- the SOA is only replaced, and only by a newer one
-    ∷ (rr.class == in_class && rr.kind == soa_kind && is_newer_soa rr rows, put_rr (without of_set rows) rr)
-    ∷ (rr.class == in_class && rr.kind == soa_kind, rows)
-    ∷ (rr.class == in_class, put_rr rows rr)
-    -- the SOA and NS of the apex stay
-    ∷ (rr.class == any_class && rr.kind == any_kind, without (λ key. same_name rr.owner key.owner && not (at_apex && (key.kind == soa_kind || key.kind == ns_kind))) rows)
-    ∷ (rr.class == any_class && at_apex && keeps_zone, rows)
-    ∷ (rr.class == any_class, without of_set rows)
+    -- a CNAME is ignored where its name has records of other kinds, and else replaces the one there
+    (rr.kind == cname_kind && not (is_empty other_kinds), rows)
+    ∷ (rr.kind == cname_kind, put_rr (without of_set rows) rr)
+    -- another record is ignored where its name has a CNAME
+    ∷ (not (is_empty (set_at rr.owner cname_kind rows)), rows)
+    -- an SOA replaces one with a lower serial, and else is ignored
+    ∷ (rr.kind == soa_kind && is_newer_soa rr rows, put_rr (without of_set rows) rr)
     ∷ (rr.kind == soa_kind, rows)
+    -- any other record is added, in place of one that is the same but for its TTL
+    ∷ []) (put_rr rows rr)
+
+-- class ANY: an RRset is deleted, or all RRsets of a name (RFC 2136, 3.4.2.3)
+abbrev pub after_set_deletion : Labels → RecordSet → Rr → RecordSet
+after_set_deletion apex rows rr =
+    let at_apex = same_name rr.owner apex in
+    let of_set : Key → Bool = is_of_rrset rr.owner in_class rr.kind in
+    chosen (
+    -- with TYPE ANY all RRsets of the name are deleted, but the SOA and the NS of the apex
+    (rr.kind == any_kind, without (λ key. same_name rr.owner key.owner && not (at_apex && (key.kind == soa_kind || key.kind == ns_kind))) rows)
+    -- with TYPE SOA or NS it is ignored at the apex
+    ∷ (at_apex && (rr.kind == soa_kind || rr.kind == ns_kind), rows)
+    -- with any other the RRset of this TYPE is deleted
+    ∷ []) (without of_set rows)
+
+-- class NONE: one record is deleted from an RRset (RFC 2136, 3.4.2.4)
+abbrev pub after_record_deletion : Labels → RecordSet → Rr → RecordSet
+after_record_deletion apex rows rr =
+    let at_apex = same_name rr.owner apex in
+    chosen (
+    -- an SOA is ignored
+    (rr.kind == soa_kind, rows)
+    -- the last NS of the apex, too
     ∷ (at_apex && rr.kind == ns_kind && is_only (as_class_in rr) (set_at rr.owner ns_kind rows), rows)
+    -- any other record is deleted, where it is there
     ∷ []) (without (same_key (key_of (as_class_in rr))) rows)
+
+-- the rows after one change, by its class (RFC 2136, 3.4.2)
+abbrev pub changed_by : Labels → RecordSet → Rr → RecordSet
+changed_by apex rows rr = chosen (
+    (rr.class == in_class, after_addition rows rr)
+    ∷ (rr.class == any_class, after_set_deletion apex rows rr)
+    ∷ (rr.class == none_class, after_record_deletion apex rows rr)
+    -- the prescan refuses any other class (RFC 2136, 3.4.1), so no change that is made has one
+    ∷ []) rows
 
 abbrev pub risen_soa : Key × Shown → Rr
 risen_soa e = record {

@@ -34,6 +34,14 @@ serial_after zone rows = unwrap_or (serial_of_zone (record zone { rows = rows })
 abbrev pub change_row : ℕ → List ℕ → ℕ → ℕ → ℕ → List ℕ → Result (ℕ × List ℕ) ℕ
 change_row serial owner ttl class kind rdata = judged_rr (example serial) [] (rr owner ttl class kind rdata ∷ []) >>= λ rows. Ok (serial_after (example serial) rows, kinds_after rows)
 
+-- a record of `a.example.com.`
+abbrev pub at_a : ℕ → ℕ → ℕ → List ℕ → Rr
+at_a ttl class kind rdata = rr (codes "a.example.com.") ttl class kind rdata
+
+-- the serial and the kinds of the rows after several changes of one update
+abbrev pub changes_row : List Rr → Result (ℕ × List ℕ) ℕ
+changes_row changes = judged_rr (example 1) [] changes >>= λ rows. Ok (serial_after (example 1) rows, kinds_after rows)
+
 -- whether the rows afterwards are a zone's
 abbrev pub is_zone_after : ℕ → List ℕ → ℕ → ℕ → ℕ → List ℕ → Result Bool ℕ
 is_zone_after serial owner ttl class kind rdata = judged_rr (example serial) [] (rr owner ttl class kind rdata ∷ []) >>= λ rows. Ok (is_zone (record (example serial) { rows = rows }))

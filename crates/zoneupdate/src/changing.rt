@@ -10,7 +10,7 @@ use crate::serial::{serial_is_greater, serial_of};
 use crate::sets::{any_of_rrset, any_other_kind, count_of_rrset, first_of_rrset, take_set};
 use dnsname::Name;
 use dnsname::name::Octets;
-use rrset::classes::{ANY, IN};
+use rrset::classes::{ANY, IN, NONE};
 use rrset::kinds::{self, CNAME, NS, SOA};
 use rrset::{Key, NoMemory, Rr, Rrs, Shown, Table};
 
@@ -180,7 +180,7 @@ fn drop_record(work: &mut Table, apex: &Name, rr: &Rr) -> Result<(), NoMemory>
 }
 
 /// Makes one change of an accepted update (RFC 2136, 3.4.2). Where memory runs out, it may be half made.
-#[tactic(auto, using(crate::proofs::ByClass::adds, crate::proofs::ByClass::takes, crate::proofs::ByClass::drops))]
+#[tactic(auto, using(crate::proofs::ByClass::adds, crate::proofs::ByClass::takes, crate::proofs::ByClass::drops, crate::proofs::ByClass::leaves))]
 fn change(work: &mut Table, apex: &Name, rr: &Rr) -> Result<(), NoMemory>
     ensures { OnOk result (work.new.rows ≡ changed_by apex.now work.old.rows (with_counted_ttl rr.now)) }
 {
@@ -190,7 +190,9 @@ fn change(work: &mut Table, apex: &Name, rr: &Rr) -> Result<(), NoMemory>
             take(work, apex, rr);
             Ok(())
         }
-        _ => drop_record(work, apex, rr),
+        NONE => drop_record(work, apex, rr),
+        // The prescan refuses any other.
+        _ => Ok(()),
     }
 }
 

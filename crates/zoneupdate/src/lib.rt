@@ -45,7 +45,7 @@ ghost use Rattle.push_base.specs.Hexadecimal.{hex};
 ghost use Rattle.dnsname.specs.Text.{name};
 ghost use Rattle.rrset.specs.RecordSet.{RecordSet};
 ghost use Rattle.zoneupdate.specs.Zones.{new_zone, serial_of_zone, serial_is_greater, is_zone};
-ghost use Rattle.zoneupdate.specs.Worked.{judged_rr, kinds_after, prerequisite_row, change_row, is_zone_after, added_twice};
+ghost use Rattle.zoneupdate.specs.Worked.{judged_rr, kinds_after, prerequisite_row, change_row, at_a, changes_row, is_zone_after, added_twice};
 ghost use Rattle.zoneupdate.specs.Updates.{max_zone_records};
 
 pub use applying::make_changes;
@@ -76,6 +76,16 @@ pub fn worked_rows()
     ensures wraps { change_row 4294967295 (codes "a.example.com.") 60 1 1 (hex (codes "c0000201")) ≡ Ok (0, 1 ∷ 2 ∷ 6 ∷ []) }
     ensures meta { change_row 1 (codes "a.example.com.") 60 1 255 [] ≡ Err 1 }
     ensures all_sets { change_row 1 (codes "example.com.") 0 255 255 [] ≡ Ok (1, 2 ∷ 6 ∷ []) }
+    ensures other_alias { changes_row (at_a 60 1 5 (hex (codes "016200")) ∷ at_a 60 1 5 (hex (codes "016300")) ∷ []) ≡ Ok (2, 5 ∷ 2 ∷ 6 ∷ []) }
+    ensures beside_alias { changes_row (at_a 60 1 5 (hex (codes "016200")) ∷ at_a 60 1 1 (hex (codes "c0000201")) ∷ []) ≡ Ok (2, 5 ∷ 2 ∷ 6 ∷ []) }
+    ensures newer_soa { change_row 1 (codes "example.com.") 60 1 6 (hex (codes "00000000000500000e1000000258000151800000003c")) ≡ Ok (5, 2 ∷ 6 ∷ []) }
+    ensures older_soa { change_row 6 (codes "example.com.") 60 1 6 (hex (codes "00000000000500000e1000000258000151800000003c")) ≡ Ok (6, 2 ∷ 6 ∷ []) }
+    ensures all_of_name { changes_row (at_a 60 1 1 (hex (codes "c0000201")) ∷ at_a 60 1 16 (hex (codes "0161")) ∷ at_a 0 255 255 [] ∷ []) ≡ Ok (1, 2 ∷ 6 ∷ []) }
+    ensures servers_of_apex { change_row 1 (codes "example.com.") 0 255 2 [] ≡ Ok (1, 2 ∷ 6 ∷ []) }
+    ensures set_of_name { changes_row (at_a 60 1 1 (hex (codes "c0000201")) ∷ at_a 60 1 16 (hex (codes "0161")) ∷ at_a 0 255 1 [] ∷ []) ≡ Ok (2, 16 ∷ 2 ∷ 6 ∷ []) }
+    ensures soa_by_record { change_row 1 (codes "example.com.") 0 254 6 (hex (codes "00000000000100000e1000000258000151800000003c")) ≡ Ok (1, 2 ∷ 6 ∷ []) }
+    ensures one_of_set { changes_row (at_a 60 1 1 (hex (codes "c0000201")) ∷ at_a 60 1 1 (hex (codes "c0000202")) ∷ at_a 0 254 1 (hex (codes "c0000201")) ∷ []) ≡ Ok (2, 1 ∷ 2 ∷ 6 ∷ []) }
+    ensures other_class { change_row 1 (codes "a.example.com.") 0 3 1 (hex (codes "c0000201")) ≡ Err 1 }
     ensures later_ttl { added_twice ≡ Ok (3, 120 ∷ []) }
 {}
 
