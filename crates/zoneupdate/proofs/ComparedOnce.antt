@@ -19,7 +19,7 @@ use Rattle.zoneupdate.proofs.Owners.{same_name-for, same_name-back, same_name-lo
 
 -- ---- sets of keys with one owner and kind
 
-set_at-same : (a b : Labels) (kind : ℕ) (rows : RecordSet) → same_name a b ≡ true → set_at a kind rows ≡ set_at b kind rows
+pub set_at-same : (a b : Labels) (kind : ℕ) (rows : RecordSet) → same_name a b ≡ true → set_at a kind rows ≡ set_at b kind rows
 set_at-same a b kind rows same =
     filter_same (λ e. is_of_rrset a in_class kind e.0) (λ e. is_of_rrset b in_class kind e.0) (λ e. ap (λ t. (t && in_class == e.0.class) && kind == e.0.kind) (same_name-for a b e.0.owner same)) rows
 

@@ -30,7 +30,7 @@ length-only p set = let parts = length-parts p set in omega arith
 
 -- ---- where all records have few octets, those of each name have
 
-light-only : (p : Key → Bool) (set : RecordSet) → size_of (only p set) ≤ size_of set
+pub light-only : (p : Key → Bool) (set : RecordSet) → size_of (only p set) ≤ size_of set
 light-only p [] = omega arith
 light-only p (e ∷ es) = by (p e.0) (size_of-only-cons p e es) (size_of-cons e es) (light-only p es)
   where

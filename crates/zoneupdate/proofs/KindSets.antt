@@ -37,7 +37,7 @@ any-only p (e ∷ es) = by (any-only p es) (p e.0)
 
 -- ---- what prerequisites of class IN ask for
 
-equal-turned : (m n : ℕ) → (m == n) ≡ (n == m)
+pub equal-turned : (m n : ℕ) → (m == n) ≡ (n == m)
 equal-turned m n = same_truth (m == n) (n == m) (λ h. eq-eqb n m (sym (eqb-true m n h))) (λ h. eq-eqb m n (sym (eqb-true n m h)))
 
 owner-turned : (a b : Labels) → same_name a (lower b) ≡ same_name b a

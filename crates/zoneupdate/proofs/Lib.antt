@@ -4,6 +4,9 @@ pub mod SerialPlace
 pub mod OneName
 pub mod SetPlaces
 pub mod ComparedOnce
+pub mod PlainChanges
+pub mod SoughtParts
+pub mod PartPlans
 pub mod ByClass
 pub mod RisenEntry
 pub mod NextSerial

@@ -80,7 +80,7 @@ one_of [] one = absurd cc
 one_of (e ∷ []) one = (e, refl)
 one_of (e ∷ f ∷ soas) one = let many = eqb-true (length (e ∷ f ∷ soas)) 1 (and-left _ _ one) in absurd (omega arith)
 
-size_of-parts : (p : Key → Bool) (set : RecordSet) → size_of (only p set) + size_of (only (fails p) set) ≡ size_of set
+pub size_of-parts : (p : Key → Bool) (set : RecordSet) → size_of (only p set) + size_of (only (fails p) set) ≡ size_of set
 size_of-parts p [] = refl
 size_of-parts p (e ∷ es) = by (p e.0) (size_of-only-cons p e es) (size_of-only-cons (fails p) e es) (size_of-cons e es) (size_of-parts p es)
   where

@@ -139,7 +139,7 @@ fn take_name(work: &mut Table, apex: &Name, owner: &Name)
 }
 
 /// A record's key in class IN.
-fn key_in_zone(rr: &Rr) -> Result<Key, NoMemory>
+pub(crate) fn key_in_zone(rr: &Rr) -> Result<Key, NoMemory>
     ensures { IfOk result (λ key. key ≡ key_of (as_class_in rr.now)) }
 {
     let mut key = rr.key()?;

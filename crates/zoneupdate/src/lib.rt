@@ -37,6 +37,7 @@ mod refusing;
 mod serial;
 mod sets;
 mod single;
+mod sought;
 mod update_check;
 mod zone;
 

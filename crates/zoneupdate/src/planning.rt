@@ -75,7 +75,7 @@ fn size_of_shown(shown: &Shown) -> u64
 }
 
 /// The octets of all records, or the greatest number of 64 bits where they are more.
-fn size_of(entries: &[(Key, Shown)]) -> u64
+pub(crate) fn size_of(entries: &[(Key, Shown)]) -> u64
     ensures { result ≡ counted (size_of entries.now) }
 {
     let mut size: u64 = 0;

@@ -29,7 +29,7 @@ fn has_kind(named: &[(Key, Shown)], kind: u16) -> bool
 }
 
 /// Whether the zone has records of a name and kind.
-fn has_set(rows: &NameTable, owner: &Name, kind: u16) -> bool
+pub(crate) fn has_set(rows: &NameTable, owner: &Name, kind: u16) -> bool
     requires { IsTrue (is_record_set rows.now.rows) }
     ensures { result ≡ not (is_empty (set_at owner.now kind rows.now.rows)) }
 {

@@ -1,25 +1,29 @@
 //! What an update of one name is planned to change, where that isn't the apex: of the apex's records the SOA alone is
 //! copied.
 
-ghost use Rattle.std.specs.Prelude.{◌≡◌, ◌≤◌, ◌+◌, ◌++◌, ℕ, true, map, fold, length, IfOk, OnOk, MatchOption, IsTrue};
+ghost use Rattle.std.specs.Prelude.{◌≡◌, ◌≤◌, ◌+◌, ◌++◌, ℕ, true, map, fold, length, nat_le, IfOk, OnOk, MatchOption, IsTrue};
 ghost use Rattle.std.specs.List.{AllByRecursion, list_all};
+ghost use Rattle.push_base.specs.Limits.{max_octets_at_name};
 ghost use Rattle.dnsname.specs.Names.{same_name};
 ghost use Rattle.rrset.specs.KeyedRows.{is_rising};
+ghost use Rattle.rrset.specs.RecordSet.{size_of};
 ghost use Rattle.rrset.specs.Tables.{HaveLowerOwners};
 ghost use Rattle.zoneupdate.specs.Zones.{is_zone, set_at};
 ghost use Rattle.zoneupdate.specs.Checking.{Plans};
 ghost use Rattle.zoneupdate.specs.Changing.{risen_rdata};
-ghost use Rattle.zoneupdate.specs.Singles.{RisesAlike, changes_beside, is_before, is_single, is_within_at};
+ghost use Rattle.zoneupdate.specs.Singles.{RisesAlike, changes_beside, is_before, is_single, is_within_part};
 ghost use Rattle.zoneupdate.specs.Updates.{changed_by, is_within_limits, max_zone_records, with_counted_ttl};
 
 use crate::changing::change_all;
 use crate::differing::append_differences;
 use crate::plan::ZonePlan;
-use crate::planning::{are_few, is_light};
+use crate::planning::{are_few, size_of};
 use crate::serial::risen_entries;
 use crate::sets::is_of_rrset;
+use crate::sought::{part_of, sought_for};
 use dnsname::Name;
 use nametable::NameTable;
+use push_base::limits::MAX_OCTETS_AT_NAME;
 use rrset::kinds::SOA;
 use rrset::{Changed, Key, NoMemory, Rr, Rrs, Shown, Table, same_rows};
 use std::alloc::Global;
@@ -143,13 +147,25 @@ fn changed_beside(
     Ok(changed)
 }
 
-/// Whether a zone stays within its limits, where the records of a name have changed.
-fn is_within_at(rows: usize, before: usize, work: &Table) -> bool
-    requires few { rows ≤ max_zone_records }
-    requires part { before ≤ rows }
-    ensures { (all : ℕ) → all + before ≡ rows + length work.now.rows → result ≡ is_within_at all work.now.rows }
+/// Whether a name's records have few enough octets, where a part of them has changed.
+fn is_light_with(named: &[(Key, Shown)], part: &[(Key, Shown)], work: &Table) -> bool
+    requires light { size_of named.now ≤ max_octets_at_name }
+    requires less { size_of part.now ≤ size_of named.now }
+    ensures { result ≡ nat_le (size_of work.now.rows + size_of named.now) (max_octets_at_name + size_of part.now) }
 {
-    are_few(rows, before, work.len()) && is_light(work)
+    let others = size_of(named) - size_of(part);
+    size_of(work.entries()) <= MAX_OCTETS_AT_NAME - others
+}
+
+/// Whether a zone stays within its limits, where a part of a name's records has changed.
+fn is_within_part(rows: usize, named: &[(Key, Shown)], part: &[(Key, Shown)], work: &Table) -> bool
+    requires few { rows ≤ max_zone_records }
+    requires part { length part.now ≤ rows }
+    requires light { size_of named.now ≤ max_octets_at_name }
+    requires less { size_of part.now ≤ size_of named.now }
+    ensures { (all : ℕ) → all + length part.now ≡ rows + length work.now.rows → result ≡ is_within_part all named.now part.now work.now.rows }
+{
+    are_few(rows, part.len(), work.len()) && is_light_with(named, part, work)
 }
 
 /// The keys that changes of one name show otherwise, or nothing where the zone would pass its limits.
@@ -165,14 +181,16 @@ pub(crate) fn planned_at(
     requires single { IsTrue (is_single apex.now name.now changes.now) }
     ensures { IfOk result (λ plan. Plans (record { apex = apex.now; writable = true; rows = rows.now.rows }) (map with_counted_ttl changes.now) plan) }
 {
-    let before = rows.at(name);
+    let named = rows.at(name);
+    let sought = sought_for(alloc, rows, name, changes)?;
+    let before = part_of(&sought, named);
     let work = changed_rows(alloc, before, apex, changes)?;
     if same_rows(before, work.entries()) {
         return Ok(Some(ZonePlan::of_nothing(alloc)));
     }
     let soas = soa_among(apex, rows.at(apex));
     rise_alike(soas);
-    if !is_within_at(rows.len(), before.len(), &work) {
+    if !is_within_part(rows.len(), named, before, &work) {
         return Ok(None);
     }
     let changed = changed_beside(alloc, name, soas, before, work.into_entries())?;
