@@ -5,3 +5,4 @@ pub mod AskedAt
 pub mod Questions
 pub mod Ids
 mod Ordered
+mod Again

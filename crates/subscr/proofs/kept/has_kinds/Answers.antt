@@ -1,4 +1,4 @@
-use Rattle.std.proofs.Common.{rules, of_calls, sym, ap, ◌∙◌}
+use Rattle.std.proofs.Common.{rules, of_calls, ◌∙◌}
 use Rattle.subscr.specs.Named.{kinds_cmp, kinds_of}
 use Rattle.subscr.proofs.Ordered.{found_by, position-from_clause}
 use Rattle.subscr.proofs.kept.has_kinds.Goals as goal
