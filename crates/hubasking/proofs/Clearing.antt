@@ -1,7 +1,8 @@
 -- Sessions that ask nothing have no reasons any more.
 --     ClearedTo, clear-begins, clear-turn, clear-ends      after the first of them; before any; after one more; after all
+--     clear-nobody      where no session has a reason
 --     clear-none, clear-few, clear-asks, clear-rests      what is done at a place
-use Rattle.std.proofs.Common.{◌≡◌, ◌⊎◌, inl, inr, ℕ, zero, suc, ◌+◌, ◌≤◌, ◌<◌, Bool, true, false, cond, List, [], ◌∷◌, ◌++◌, length, map, Option, Some, None, refl, sym, ap, subst, ◌∙◌, arith}
+use Rattle.std.proofs.Common.{◌≡◌, ◌⊎◌, inl, inr, ℕ, zero, suc, ◌+◌, ◌≤◌, ◌<◌, Bool, true, false, cond, List, [], ◌∷◌, ◌++◌, length, map, Option, Some, None, refl, sym, ap, subst, ◌∙◌, arith, not, ◌||◌}
 use Rattle.std.specs.Prelude.{slice_get, option_map, IfSome, find, ◌==◌}
 use Rattle.std.specs.List.{AllZip, AllByRecursion, IsDistinct, list_any}
 use Rattle.std.proofs.lemmas.List.{length-map}
@@ -12,6 +13,7 @@ use Rattle.linkcache.specs.Links.{LinkState}
 use Rattle.linkask.specs.Reasons.{LinkAsking}
 use Rattle.linkask.specs.Bounds.{AreBounds}
 use Rattle.linkreasons.specs.AllReasons.{AllReasons, ReasonsOfLink, AreBoundsAt, KeepsBounds, asking_of, askings_of, in_session, only_from, questions_for, session_questions}
+use Rattle.linkreasons.specs.Changing.{have_reasons}
 use Rattle.linkreasons.specs.Laws.{AreAmong, FewerThenFewer}
 use Rattle.linkreasons.specs.declared.reason.Reason.{Reason}
 use Rattle.pushsession.specs.Kept.{KeptSession}
@@ -21,8 +23,9 @@ use Rattle.pushserver.specs.PlainHubs.{Hub, Session}
 use Rattle.pushserver.specs.KeptHubs.{KeptHub, SessionStandsFor, StandsFor}
 use Rattle.livesessions.proofs.SessionLists.{same-number, number-itself}
 use Rattle.hubasking.specs.KeptReasons.{CanFollow, HasBounds, StillAsks, reasons_of, rests, session_reasons}
-use Rattle.hubasking.specs.Following.{Clears, ClearsFound, LeadFrom, Rested}
+use Rattle.hubasking.specs.Following.{Clears, ClearsFound, LeadFrom, Rested, doubts_in}
 use Rattle.hubasking.proofs.Leading.{Sessions, AskFewer, among-append, lead-itself, lead-only}
+use Rattle.hubasking.proofs.StillRows.{doubts-only}
 
 -- ---- numbers of sessions
 
@@ -171,6 +174,7 @@ pub record ClearedTo (later : KeptHub) (old now : AllReasons) (place : ℕ) : Ty
   pub bounds : AllZip HasBounds (state_now later).links now.links
   pub rested : Rested later place now.sessions
   pub many : length now.sessions ≡ length old.sessions
+  pub doubts : doubts_in (askings_of now) ≡ doubts_in (askings_of old)
 
 pub clear-begins : (later : KeptHub) (old : AllReasons) → CanFollow later old → ClearedTo later old old 0
 clear-begins later old can = record {
@@ -179,13 +183,14 @@ clear-begins later old can = record {
   bounds = can.links;
   rested = tt;
   many = refl;
+  doubts = refl;
 }
 
 one-more : (place : ℕ) → suc place ≡ place + 1
 one-more place = omega arith
 
 goes-on : (later : KeptHub) (old now : AllReasons) (place : ℕ) → ClearedTo later old now place → Rested later (suc place) now.sessions → ClearedTo later old now (place + 1)
-goes-on later old now place so_far rested = record { sessions = so_far.sessions; leads = so_far.leads; bounds = so_far.bounds; rested = subst (λ (n : ℕ). Rested later n now.sessions) (one-more place) rested; many = so_far.many }
+goes-on later old now place so_far rested = record { sessions = so_far.sessions; leads = so_far.leads; bounds = so_far.bounds; rested = subst (λ (n : ℕ). Rested later n now.sessions) (one-more place) rested; many = so_far.many; doubts = so_far.doubts }
 
 asked : {number : ℕ} {old new : AllReasons} → Clears number old new → askings_of new ≡ only_from 0 (in_session number (λ _. []) old.sessions) (askings_of old)
 asked {number} {old} {new} clears = clears.askings ∙ ap (λ (s : Sessions). only_from 0 s (askings_of old)) clears.sessions
@@ -203,6 +208,7 @@ cleared fewer later found old now next place e at so_far rest clears =
           (subst (λ (n : ℕ). Rested later n (in_session e.0 (λ _. []) now.sessions)) (one-more place)
           (rested-here later place (e.0, []) (in_session e.0 (λ _. []) now.sessions) (cleared-at e.0 place e now.sessions at refl) (λ r. refl) (rested-in later place e.0 now.sessions so_far.rested)));
       many = ap (λ (s : Sessions). length s) clears.sessions ∙ length-map now.sessions (λ (d : ℕ × List Reason). (d.0, cond (d.0 == e.0) [] d.1)) ∙ so_far.many;
+      doubts = ap doubts_in (asked clears) ∙ doubts-only 0 (in_session e.0 (λ _. []) now.sessions) (askings_of now) ∙ so_far.doubts;
     }
 
 pub clear-turn : FewerThenFewer → (later : KeptHub) → AreFound later.sessions later.sessions → (old now next : AllReasons) (place : ℕ) → ClearedTo later old now place → ClearsFound later (slice_get now.sessions place) now next → ClearedTo later old next (place + 1)
@@ -227,6 +233,23 @@ all-reasons later (e ∷ es) (y ∷ ys) found zip rested = λ i. (zip.0.0 i, by 
 
 pub clear-ends : (later : KeptHub) → AreFound later.sessions later.sessions → (old now : AllReasons) (place : ℕ) → length old.sessions ≤ place → ClearedTo later old now place → now.sessions ≡ later_reasons later
 clear-ends later found old now place long so_far = all-reasons later now.sessions later.sessions found so_far.sessions (rested-all later place now.sessions (subst (λ (n : ℕ). n ≤ place) (sym so_far.many) long) so_far.rested)
+
+-- ---- where no session has a reason
+
+none-there : (es : Sessions) → have_reasons es ≡ false → AllByRecursion (λ (e : ℕ × List Reason). e.1 ≡ []) es
+none-there [] none = tt
+none-there (e ∷ es) none = by (is_empty e.1) refl (none-there es) none
+  where
+    by : (b : Bool) → is_empty e.1 ≡ b → (have_reasons es ≡ false → AllByRecursion (λ (e : ℕ × List Reason). e.1 ≡ []) es) → (not b || have_reasons es) ≡ false → (e.1 ≡ []) × AllByRecursion (λ (e : ℕ × List Reason). e.1 ≡ []) es
+    by true is rest none = (empty-is e.1 is, rest none)
+    by false is rest none = absurd cc
+
+rested-so : (later : KeptHub) (es : Sessions) → AllByRecursion (λ (e : ℕ × List Reason). e.1 ≡ []) es → AllByRecursion (λ (e : ℕ × List Reason). rests later e.0 ≡ true → e.1 ≡ []) es
+rested-so later [] none = tt
+rested-so later (e ∷ es) none = ((λ rest. none.0), rested-so later es none.1)
+
+pub clear-nobody : (later : KeptHub) → AreFound later.sessions later.sessions → (old : AllReasons) → CanFollow later old → have_reasons old.sessions ≡ false → old.sessions ≡ later_reasons later
+clear-nobody later found old can none = all-reasons later old.sessions later.sessions found can.sessions (rested-so later old.sessions (none-there old.sessions none))
 
 -- ---- what is done at a place
 

@@ -51,7 +51,7 @@ or-second true b is = refl
 or-second false b is = is
 
 -- what holds of each holds of those that pass a test
-all-filter : {X : Type 0} (P : X → Type 0) (test : X → Bool) (xs : List X) → AllByRecursion P xs → AllByRecursion P (filter test xs)
+pub all-filter : {X : Type 0} (P : X → Type 0) (test : X → Bool) (xs : List X) → AllByRecursion P xs → AllByRecursion P (filter test xs)
 all-filter P test [] all = tt
 all-filter {X} P test (x ∷ xs) all = by (test x) (all-filter P test xs all.1)
   where

@@ -1,5 +1,6 @@
 pub mod Standing
 pub mod Leading
+pub mod StillRows
 pub mod Places
 pub mod Clearing
 pub mod Refreshing
@@ -18,10 +19,12 @@ pub mod Gives
 pub mod GiveEnds
 pub mod GiveMore
 pub mod Ending
+pub mod Touching
 pub mod Seated
 pub mod Sending
 pub mod Staying
 pub mod GiveSettles
+pub mod GiveStill
 pub mod GiveUndone
 pub mod ReadyTurns
 pub mod Beginning

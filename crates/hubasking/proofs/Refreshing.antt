@@ -1,5 +1,6 @@
 -- Rows of links that were heard since, or went, aren't reconfirmed any more.
 --     RefreshedTo, refresh-begins, refresh-turn, refresh-ends      after the first links; before any; after one more; after all
+--     refreshed-next      after one alone
 --     follow-ends      where sessions and links followed
 use Rattle.std.proofs.Common.{◌≡◌, ℕ, zero, suc, ◌+◌, ◌≤◌, List, [], ◌∷◌, length, map, Option, Some, None, refl, sym, ap, subst, ◌∙◌}
 use Rattle.std.specs.Prelude.{slice_get}
@@ -46,6 +47,11 @@ refreshed fewer links old now next link l at so_far step =
       still = subst (StillTo (link + 1) links) (sym asked) (still-next link now.sessions l links (askings_of now) at so_far.still);
       many = sym (length-map next.links asking_of) ∙ sym many ∙ length-map now.links asking_of ∙ so_far.many;
     }
+
+-- where one link alone is looked at
+pub refreshed-next : FewerThenFewer → (links : List LinkState) (old next : AllReasons) (link : ℕ) (l : LinkState) → slice_get links link ≡ Some l → AllZip HasBounds links old.links → StillTo link links (askings_of old) → Refreshes link l old next → RefreshedTo links old next (link + 1)
+refreshed-next fewer links old next link l at bounds still step =
+    refreshed fewer links old old next link l at (record { sessions = refl; leads = lead-itself 0 old.sessions links (askings_of old) (bounds-length links old.links bounds); bounds = bounds; still = still; many = refl }) step
 
 pub refresh-turn : FewerThenFewer → (links : List LinkState) (old now next : AllReasons) (link : ℕ) → RefreshedTo links old now link → RefreshesFound link (slice_get links link) now next → RefreshedTo links old next (link + 1)
 refresh-turn fewer links old now next link so_far turn = by (slice_get links link) refl turn

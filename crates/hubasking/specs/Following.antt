@@ -1,18 +1,25 @@
 -- How what links are asked follows the reasons for it, one step after the other.
 --     LeadsAt, LeadFrom link sessions links before now      what is asked of a link now leads to what there will be reason to ask, as what was asked before does; of each link
 --     StillTo place links askings      the rows of the first links that are reconfirmed weren't heard since
+--     doubts_in askings      the rows of each link that were reconfirmed
+--     AreStill links doubts, StillBut touched links doubts      none of them was heard since; none but of links that a call touched
+--     EndsBut touched at links      of no link but those a row ends by a moment
 --     Rested later place sessions      the first sessions that ask nothing have no reasons
 --     ClearsAt later place old new      the session of a place has none where it asks nothing
 --     RefreshesAt hub link old new      rows of a link that were heard since, or went, aren't reconfirmed any more
-use Rattle.std.specs.Prelude.{◌≡◌, ◌⊎◌, ℕ, ◌+◌, zero, suc, true, List, [], ◌∷◌, Option, Some, None, slice_get}
+use Rattle.std.specs.Prelude.{◌≡◌, ◌⊎◌, ℕ, ◌+◌, zero, suc, true, List, [], ◌∷◌, map, Option, Some, None, slice_get}
+use Rattle.std.specs.List.{AllByRecursion, AllZip}
 use Rattle.push_base.specs.Cases.{changed_at}
 use Rattle.linkcache.specs.Links.{LinkState}
-use Rattle.linkask.specs.Reasons.{LinkAsking, still_reconfirmed}
+use Rattle.linkcache.specs.Rows.{at_moment}
+use Rattle.linkask.specs.Reasons.{LinkAsking, Reconfirmed, still_reconfirmed}
 use Rattle.linkreasons.specs.AllReasons.{AllReasons, KeepsBounds, askings_of, in_session, only_reasons, reasons_on, still_doubted, with_any_of}
 use Rattle.linkreasons.specs.declared.reason.Reason.{Reason}
 use Rattle.pushserver.specs.Hubs.{state_now}
 use Rattle.pushserver.specs.KeptHubs.{KeptHub}
 use Rattle.hubasking.specs.KeptReasons.{rests}
+use Rattle.hubasking.specs.declared.following.Touched.{Touched}
+use Rattle.hubasking.specs.declared.following.Touched.TheVariants.{Nothing, Link, Links}
 
 pub record LeadsAt (link : ℕ) (sessions : List (ℕ × List Reason)) (l : LinkState) (before now : LinkAsking) : Type 0 where
   pub still : still_reconfirmed l.rows now.reconfirmed ≡ still_reconfirmed l.rows before.reconfirmed
@@ -30,6 +37,34 @@ StillTo _ _ _ = Unit {0}
 abbrev pub Rested : KeptHub → ℕ → List (ℕ × List Reason) → Type 0
 Rested later (suc place) (e ∷ es) = (rests later e.0 ≡ true → e.1 ≡ []) × Rested later place es
 Rested later _ _ = Unit {0}
+
+-- ---- rows that weren't heard since
+
+abbrev pub doubts_in : List LinkAsking → List Reconfirmed
+doubts_in askings = map (λ a. a.reconfirmed) askings
+
+abbrev pub AreStill : List LinkState → List Reconfirmed → Type 0
+AreStill links doubts = AllZip (λ l d. still_reconfirmed l.rows d ≡ d) links doubts
+
+-- but those of one link
+abbrev pub StillBeside : ℕ → List LinkState → List Reconfirmed → Type 0
+StillBeside zero (l ∷ ls) (d ∷ ds) = AreStill ls ds
+StillBeside (suc link) (l ∷ ls) (d ∷ ds) = (still_reconfirmed l.rows d ≡ d) × StillBeside link ls ds
+StillBeside _ _ _ = Unit {0}
+
+abbrev pub StillBut : Touched → List LinkState → List Reconfirmed → Type 0
+StillBut Nothing links doubts = AreStill links doubts
+StillBut (Link link) links doubts = StillBeside link links doubts
+StillBut Links links doubts = Unit {0}
+
+abbrev pub StaysAt : ℕ → Option LinkState → Type 0
+StaysAt at None = Unit {0}
+StaysAt at (Some l) = at_moment l.rows at ≡ l.rows
+
+abbrev pub EndsBut : Touched → ℕ → List LinkState → Type 0
+EndsBut Nothing at links = AllByRecursion (λ l. at_moment l.rows at ≡ l.rows) links
+EndsBut (Link link) at links = ⊥
+EndsBut Links at links = Unit {0}
 
 -- ---- steps
 

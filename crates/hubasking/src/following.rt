@@ -1,15 +1,30 @@
 //! What links are asked follows the reasons for it.
 
-ghost use Rattle.std.specs.Prelude.{◌≡◌, None};
+ghost use Rattle.std.specs.Prelude.{◌≡◌, None, false, slice_get};
 ghost use Rattle.std.specs.List.{AllZip};
+ghost use Rattle.history.specs.Kept.{state_of};
+ghost use Rattle.linkcache.specs.Rows.{at_moment};
 ghost use Rattle.linkreasons.specs.AllReasons.{askings_of};
 ghost use Rattle.pushserver.specs.Hubs.{state_now};
-ghost use Rattle.hubasking.specs.Following.{ClearsAt, LeadFrom, RefreshesAt};
+ghost use Rattle.hubasking.specs.Following.{ClearsAt, EndsBut, LeadFrom, RefreshesAt, StaysAt, StillBut, doubts_in};
 ghost use Rattle.hubasking.specs.LinkAskings.{behind, kept_questions};
 ghost use Rattle.hubasking.specs.KeptReasons.{AreKept, CanFollow, HasBounds, MatchesLink, followed, rests, session_reasons};
 
+use history::Homes;
+use linkcache::Cache;
 use linkreasons::LinkReasons;
 use linkreasons::laws::reasons_are_followed;
+
+/// Which links may have rows behind a call that went or were heard in it.
+#[derive(Clone, Copy)]
+pub(crate) enum Touched {
+    /// None.
+    Nothing,
+    /// One.
+    Link(usize),
+    /// All.
+    Links,
+}
 
 /// Whether a session asks nothing.
 fn rests(hub: &pushserver::Hub, number: u64) -> bool
@@ -41,7 +56,11 @@ fn clear_rested(hub: &pushserver::Hub, reasons: &mut LinkReasons)
     ensures sessions { reasons.new.sessions ≡ session_reasons (state_now hub.now) hub.now.sessions }
     ensures leads { LeadFrom 0 (session_reasons (state_now hub.now) hub.now.sessions) (state_now hub.now).links (askings_of reasons.old) (askings_of reasons.new) }
     ensures bounds { AllZip HasBounds (state_now hub.now).links reasons.new.links }
+    ensures doubts { doubts_in (askings_of reasons.new) ≡ doubts_in (askings_of reasons.old) }
 {
+    if !reasons.has_reasons() {
+        return;
+    }
     reasons_are_followed();
     'sessions: for place in 0..reasons.len() {
         clear_at(hub, reasons, place);
@@ -57,8 +76,8 @@ fn refresh_at(hub: &pushserver::Hub, reasons: &mut LinkReasons, link: usize)
     }
 }
 
-/// Rows that were heard since, or went, aren't reconfirmed any more.
-fn refresh_links(hub: &pushserver::Hub, reasons: &mut LinkReasons)
+/// Rows of all links that were heard since, or went, aren't reconfirmed any more.
+fn refresh_all(hub: &pushserver::Hub, reasons: &mut LinkReasons)
     requires sessions { reasons.old.sessions ≡ session_reasons (state_now hub.now) hub.now.sessions }
     requires bounds { AllZip HasBounds (state_now hub.now).links reasons.old.links }
     ensures sessions { reasons.new.sessions ≡ reasons.old.sessions }
@@ -71,16 +90,68 @@ fn refresh_links(hub: &pushserver::Hub, reasons: &mut LinkReasons)
     }
 }
 
-/// Each link is asked what there is reason to behind a call.
-pub(crate) fn follow(hub: &pushserver::Hub, reasons: &mut LinkReasons)
-    requires { CanFollow hub.now reasons.old }
+/// Rows that were heard since, or went, aren't reconfirmed any more. Only rows of links that a call touched may be such.
+fn refresh_links(hub: &pushserver::Hub, reasons: &mut LinkReasons, touched: Touched)
+    requires sessions { reasons.old.sessions ≡ session_reasons (state_now hub.now) hub.now.sessions }
+    requires bounds { AllZip HasBounds (state_now hub.now).links reasons.old.links }
+    requires still { StillBut touched (state_now hub.now).links (doubts_in (askings_of reasons.old)) }
+    ensures sessions { reasons.new.sessions ≡ reasons.old.sessions }
+    ensures leads { LeadFrom 0 reasons.old.sessions (state_now hub.now).links (askings_of reasons.old) (askings_of reasons.new) }
+    ensures links { AllZip MatchesLink (state_now hub.now).links reasons.new.links }
+{
+    reasons_are_followed();
+    match touched {
+        Touched::Nothing => {}
+        Touched::Link(link) => refresh_at(hub, reasons, link),
+        Touched::Links => refresh_all(hub, reasons),
+    }
+}
+
+/// Each link is asked what there is reason to behind a call that touched rows of these links alone.
+pub(crate) fn follow(hub: &pushserver::Hub, reasons: &mut LinkReasons, touched: Touched)
+    requires follows { CanFollow hub.now reasons.old }
+    requires still { StillBut touched (state_now hub.now).links (doubts_in (askings_of reasons.old)) }
     ensures kept { AreKept hub.now reasons.new }
     ensures askings { askings_of reasons.new ≡ followed hub.now (askings_of reasons.old) }
     ensures behind { followed hub.now (askings_of reasons.old) ≡ behind kept_questions None hub.now (askings_of reasons.old) }
 {
     reasons.tell();
     clear_rested(hub, reasons);
-    refresh_links(hub, reasons);
+    refresh_links(hub, reasons, touched);
     reasons.tell();
     reasons_are_followed();
+}
+
+/// Whether a row of a link ends by a moment.
+fn ends_by(cache: &Cache, at: u64) -> bool
+    ensures { result ≡ false → at_moment cache.now.state.rows at ≡ cache.now.state.rows }
+{
+    match cache.next_end() {
+        Some(end) => end <= at,
+        None => false,
+    }
+}
+
+/// Whether a row of the link at a place ends by a moment.
+fn ends_at(homes: &Homes, link: usize, at: u64) -> bool
+    ensures { result ≡ false → StaysAt at (slice_get (state_of homes.now).links link) }
+{
+    match homes.cache(link) {
+        Some(cache) => ends_by(cache, at),
+        None => false,
+    }
+}
+
+/// Which links a moment touches: none where no row ends by it.
+pub(crate) fn touched_by(hub: &pushserver::Hub, reasons: &LinkReasons, at: u64) -> Touched
+    requires { AreKept hub.now reasons.now }
+    ensures { EndsBut result at (state_now hub.now).links }
+{
+    let homes = hub.homes();
+    'links: for link in 0..reasons.links() {
+        if ends_at(homes, link, at) {
+            return Touched::Links;
+        }
+    }
+    Touched::Nothing
 }

@@ -19,7 +19,7 @@ ghost use Rattle.hubasking.specs.Idle.{session_at};
 ghost use Rattle.hubasking.specs.LinkAskings.{ask, asking_after, kept_questions, plain_questions};
 
 use crate::asking::ask_link;
-use crate::following::follow;
+use crate::following::{Touched, follow, touched_by};
 use crate::giving::{count_of, make_ready, settle, undo};
 use crate::hearing::{hearing_in, lower};
 use crate::idle::session_at;
@@ -102,7 +102,7 @@ impl Hub {
         ensures asks { OnOk result ((hub : Plain) → StandsFor self.old.hub hub → self.new.askings ≡ asking_after plain_questions (updates message.now) hub self.old.askings) }
     {
         let code = self.hub.update_uncounted(message)?;
-        follow(&self.hub, &mut self.reasons);
+        follow(&self.hub, &mut self.reasons, Touched::Nothing);
         Ok(code)
     }
 
@@ -122,7 +122,7 @@ impl Hub {
         let now = self.hub.now();
         let heard = self.hub.hear_uncounted(link, datagram)?;
         lower(&mut self.reasons, heard, link, now, &hearing);
-        follow(&self.hub, &mut self.reasons);
+        follow(&self.hub, &mut self.reasons, Touched::Link(link));
         Ok(heard)
     }
 
@@ -139,7 +139,7 @@ impl Hub {
     {
         bounds();
         let gone = self.hub.link_gone_uncounted(link)?;
-        follow(&self.hub, &mut self.reasons);
+        follow(&self.hub, &mut self.reasons, Touched::Link(link));
         Ok(gone)
     }
 
@@ -157,8 +157,9 @@ impl Hub {
         ensures asks { OnOk result ((hub : Plain) → StandsFor self.old.hub hub → self.new.askings ≡ asking_after plain_questions (moves at) hub self.old.askings) }
     {
         bounds();
+        let touched = touched_by(&self.hub, &self.reasons, at);
         self.hub.moment_uncounted(at)?;
-        follow(&self.hub, &mut self.reasons);
+        follow(&self.hub, &mut self.reasons, touched);
         Ok(())
     }
 
@@ -213,7 +214,7 @@ impl Hub {
         match self.hub.give_uncounted(session, buf) {
             Ok(given) => {
                 settle(&self.hub, &mut self.reasons, session, ready, count, point);
-                follow(&self.hub, &mut self.reasons);
+                follow(&self.hub, &mut self.reasons, Touched::Nothing);
                 Ok(given)
             }
             Err(fault) => {
@@ -234,7 +235,7 @@ impl Hub {
         self.reasons.tell();
         self.hub.end(session);
         self.reasons.end(session);
-        follow(&self.hub, &mut self.reasons);
+        follow(&self.hub, &mut self.reasons, Touched::Nothing);
     }
 
     /// Asks for the stop of a session with an RCODE and a Retry Delay in milliseconds (RFC 8490, 6.6.1).

@@ -2,10 +2,10 @@
 --     session-ends, takes-back, keeps-those, clears      reasons of a session go
 --     doubt-goes, doubts-go      a row that was reconfirmed is taken back; those go that were heard since
 --     Leads, reason-comes, doubt-comes, doubt-settles      a reason comes; a row is reconfirmed, or stands for all of its key
---     session-comes, more-room      a session comes; there is more room
-use Rattle.std.proofs.Common.{◌≡◌, ℕ, ◌+◌, ◌<◌, ◌≤◌, ◌-◌, ◌^◌, true, false, List, [], ◌∷◌, ◌++◌, map, not, replicate, Result, Ok, Err, refl, sym, ap, subst, ◌∙◌, arith}
+--     session-comes, none-more, more-room      a session comes; it has no reasons; there is more room
+use Rattle.std.proofs.Common.{◌≡◌, ℕ, ◌+◌, ◌<◌, ◌≤◌, ◌-◌, ◌^◌, Bool, true, false, ◌||◌, List, [], ◌∷◌, ◌++◌, map, not, replicate, Result, Ok, Err, refl, sym, ap, subst, ◌∙◌, arith}
 use Rattle.std.specs.Prelude.{OnErr, OnOk, filter}
-use Rattle.push_base.specs.Cases.{changed_at}
+use Rattle.push_base.specs.Cases.{changed_at, is_empty}
 use Rattle.rrset.specs.declared.record.HeardRr.{HeardRr}
 use Rattle.rrset.specs.declared.record.Key.{Key}
 use Rattle.subscr.specs.Asked.{Asked, has}
@@ -13,7 +13,7 @@ use Rattle.linkcache.specs.Rows.{LinkRows}
 use Rattle.linkask.specs.Laws.{BeginningAnew, ReasonsKeepBounds, UnwantingDrops, WantingWants}
 use Rattle.linkask.specs.Reasons.{LinkAsking, question_for}
 use Rattle.linkreasons.specs.AllReasons.{AllReasons, KeepsBounds, ReasonsOfLink, asking_of, askings_of, but_last, doubted_less, doubted_more, in_session, only_reasons, still_doubted, with_reason, with_those, with_wanted, without_session}
-use Rattle.linkreasons.specs.Changing.{IsOneAsked, all_gone, doubted, gone_in, heard_by, is_there, last_of, one_wanted, refreshed, settled, settled_last, undoubted}
+use Rattle.linkreasons.specs.Changing.{IsOneAsked, all_gone, doubted, gone_in, have_reasons, heard_by, is_there, last_of, one_wanted, refreshed, settled, settled_last, undoubted}
 use Rattle.linkreasons.specs.Counting.{AreDistinct, IsAllCounted}
 use Rattle.linkreasons.specs.declared.reason.Reason.{Reason}
 use Rattle.linkreasons.proofs.Changes.{Turned, counted-still, doubts-turns, hears-turns, nothing-changes, settles-steps, settles-turns, steps-all, wants-turns}
@@ -173,3 +173,8 @@ pub begins : (n : ℕ) (links : List ReasonsOfLink) (sessions : Sessions) → li
 begins n links sessions is none =
     subst (λ (s : Sessions). IsAllCounted 0 (these links s)) (sym none)
     (subst (λ (ls : List ReasonsOfLink). IsAllCounted 0 (these ls [])) (sym is) (record { links = new-counted n 0; numbers = tt }))
+
+-- it comes without reasons
+pub none-more : (sessions : Sessions) (number : ℕ) → have_reasons (sessions ++ (number, []) ∷ []) ≡ have_reasons sessions
+none-more [] number = refl
+none-more (e ∷ es) number = ap (λ (b : Bool). not (is_empty e.1) || b) (none-more es number)

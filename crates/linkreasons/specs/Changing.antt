@@ -6,10 +6,10 @@
 --     settled_last      the last row stands for all of its key, where there is one
 --     asked_on rows now link askings      what is sent for the first question of a link that is due, and what is asked then
 --     IsOneAsked rows link olds news      only what was asked of a link and the bounds change
---     is_there number sessions      a session has this number
+--     is_there number sessions, have_reasons sessions      a session has this number; one has a reason
 use Rattle.std.specs.Prelude.{◌≡◌, ℕ, zero, suc, Bool, not, cond, List, [], ◌∷◌, ◌++◌, map, filter, flat_map, fold, Option, Some, None, slice_get, ◌==◌, if◌then◌else◌, ⊤}
 use Rattle.std.specs.List.{list_any}
-use Rattle.push_base.specs.Cases.{changed_at}
+use Rattle.push_base.specs.Cases.{changed_at, is_empty}
 use Rattle.rrset.specs.Records.{same_key}
 use Rattle.rrset.specs.KeyedRows.{row_at}
 use Rattle.rrset.specs.declared.record.HeardRr.{HeardRr}
@@ -113,3 +113,6 @@ gone_in number which sessions = flat_map (λ e. cond (e.0 == number) (which e.1)
 
 abbrev pub is_there : ℕ → List (ℕ × List Reason) → Bool
 is_there number sessions = list_any (λ e. e.0 == number) sessions
+
+abbrev pub have_reasons : List (ℕ × List Reason) → Bool
+have_reasons sessions = list_any (λ e. not (is_empty e.1)) sessions

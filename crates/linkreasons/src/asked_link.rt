@@ -1,6 +1,7 @@
 //! What one link is asked, and its rows that were reconfirmed.
 
 ghost use Rattle.std.specs.Prelude.{◌≡◌, ◌<◌, ◌≤◌, ◌++◌, ◌∷◌, [], false, filter, length, not, true, Some, None, IfOk, OnOk, OnErr, if◌then◌else◌};
+ghost use Rattle.std.specs.List.{list_any};
 ghost use Rattle.std.specs.Vec.{vec_capacity, vec_len};
 ghost use Rattle.push_base.specs.Limits.{max_datagram, max_moment};
 ghost use Rattle.rrset.specs.Records.{same_key};
@@ -54,6 +55,13 @@ fn drop_same(asker: &mut Asker, rows: &[DoubtedRow], row: &DoubtedRow)
     }
 }
 
+/// Whether a row has the key of another.
+fn has_key(rows: &[DoubtedRow], row: &DoubtedRow) -> bool
+    ensures { result ≡ list_any (λ r. same_key row.now.0 r.0) rows.now }
+{
+    rows.iter().any(|other| row.is_of(other))
+}
+
 /// Where a row isn't among others its question begins anew.
 fn begin_if_new(asker: &mut Asker, rows: &[DoubtedRow], row: &DoubtedRow)
     ensures { asker.new ≡ begun_if_new row.now rows.now asker.old }
@@ -84,6 +92,22 @@ fn put_last(rows: &mut Vec<DoubtedRow>, row: DoubtedRow)
     ensures { rows.new.items ≡ filter (λ r. not (same_key row.0 r.0)) rows.old.items ++ row ∷ [] }
 {
     rows.retain(|other| !row.is_of(other));
+    rows.push_reserved(row);
+}
+
+/// A row that was taken out stands for others with its key, behind the others. Mostly there is none, and then they are
+/// looked at once.
+fn settle_row(asker: &mut Asker, rows: &mut Vec<DoubtedRow>, row: DoubtedRow)
+    requires { vec_len rows.old < vec_capacity rows.old }
+    ensures kept { asker.new ≡ begun_if_new row rows.old.items (unwanted_all (questions_of_rows (filter (λ r. same_key row.0 r.0) rows.old.items)) asker.old) }
+    ensures rows { rows.new.items ≡ filter (λ r. not (same_key row.0 r.0)) rows.old.items ++ row ∷ [] }
+{
+    if has_key(rows, &row) {
+        settle_for(asker, rows, &row);
+        put_last(rows, row);
+        return;
+    }
+    asker.ask_anew(row.question());
     rows.push_reserved(row);
 }
 
@@ -145,8 +169,7 @@ impl AskedLink {
         let Some(row) = self.rows.pop() else {
             return;
         };
-        settle_for(&mut self.asker, &self.rows, &row);
-        put_last(&mut self.rows, row);
+        settle_row(&mut self.asker, &mut self.rows, row);
     }
 
     /// The rows go that have gone or were heard since.

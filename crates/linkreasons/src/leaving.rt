@@ -4,7 +4,7 @@ ghost use Rattle.std.specs.Prelude.{◌≡◌, ◌<◌, ◌==◌, [], filter, le
 ghost use Rattle.push_base.specs.Cases.{changed_at};
 ghost use Rattle.subscr.specs.Asked.{has};
 ghost use Rattle.linkreasons.specs.AllReasons.{but_last, in_session, with_reason, with_those, without_session};
-ghost use Rattle.linkreasons.specs.Changing.{all_gone, gone_in, is_there, last_of, one_gone, one_wanted};
+ghost use Rattle.linkreasons.specs.Changing.{all_gone, gone_in, have_reasons, is_there, last_of, one_gone, one_wanted};
 ghost use Rattle.linkreasons.specs.Counting.{AreDistinct};
 
 use crate::NoMemory;
@@ -25,6 +25,13 @@ pub(crate) fn is_there(sessions: &[(u64, Reasons)], number: u64) -> bool
     ensures { result ≡ is_there number sessions.now }
 {
     sessions.iter().any(|entry| entry.0 == number)
+}
+
+/// Whether a session has a reason.
+pub(crate) fn have_reasons(sessions: &[(u64, Reasons)]) -> bool
+    ensures { result ≡ have_reasons sessions.now }
+{
+    sessions.iter().any(|entry| !entry.1.is_empty())
 }
 
 /// A reason goes. The link may be there or not.

@@ -6,7 +6,7 @@ ghost use Rattle.push_base.specs.Limits.{max_datagram, max_moment};
 ghost use Rattle.linkcache.specs.Rows.{LinkRows, heard};
 ghost use Rattle.linkcache.specs.declared.rules.LinkRules.{LinkRules};
 ghost use Rattle.linkreasons.specs.AllReasons.{AreBoundsAt, AreFollowed, KeepsBounds, askings_of, but_last, doubted_less, doubted_more, in_session, only_reasons, still_doubted, with_reason, with_those, with_wanted, without_session};
-ghost use Rattle.linkreasons.specs.Changing.{asked_on, is_there, settled_last};
+ghost use Rattle.linkreasons.specs.Changing.{asked_on, have_reasons, is_there, settled_last};
 ghost use Rattle.linkreasons.specs.Counting.{AreDistinct};
 
 use crate::NoMemory;
@@ -14,7 +14,9 @@ use crate::asked_link::AskedLink;
 use crate::asked_links::{
     ask_on, doubt_on, hear_on, new_links, refresh_on, settle_on, take_back_on,
 };
-use crate::leaving::{add_reason, clear_all, end_session, is_there, keep_those, take_back_last};
+use crate::leaving::{
+    add_reason, clear_all, end_session, have_reasons, is_there, keep_those, take_back_last,
+};
 use crate::reason::Reason;
 use crate::reasons::Reasons;
 use linkask::laws;
@@ -31,17 +33,21 @@ pub struct LinkReasons {
     sessions: Vec<(u64, Reasons)>,
     /// No question of a link has more reasons than so many.
     most: u64,
+    /// Whether a session has any.
+    busy: bool,
 }
 
 impl Model for LinkReasons {
     ghost use Rattle.linkreasons.specs.AllReasons.{AllReasons};
+    ghost use Rattle.linkreasons.specs.Changing.{have_reasons};
     ghost use Rattle.linkreasons.specs.Counting.{IsAllCounted};
+    ghost use Rattle.std.specs.Prelude.{◌≡◌};
 
     ghost Value = { AllReasons };
 
     ghost view = { λ a. record { links = a.links.items; sessions = a.sessions.items } };
 
-    ghost invariant = { λ a. IsAllCounted a.most (record { links = a.links.items; sessions = a.sessions.items }) };
+    ghost invariant = { λ a. IsAllCounted a.most (record { links = a.links.items; sessions = a.sessions.items }) × (a.busy ≡ have_reasons a.sessions.items) };
 }
 
 /// One more than so many, where 64 bits have room for it.
@@ -65,6 +71,7 @@ impl LinkReasons {
             links: made,
             sessions: Vec::new(alloc),
             most: 0,
+            busy: false,
         })
     }
 
@@ -88,6 +95,13 @@ impl LinkReasons {
         ensures { result ≡ length self.now.sessions }
     {
         self.sessions.len()
+    }
+
+    /// Whether a session has a reason.
+    pub fn has_reasons(&self) -> bool
+        ensures { result ≡ have_reasons self.now.sessions }
+    {
+        self.busy
     }
 
     /// The number of a session, counted from 0 in the order in which they came, and how many reasons it has.
@@ -127,7 +141,9 @@ impl LinkReasons {
         laws::bounds();
         let most = more_room(self.most)?;
         self.most = most;
-        add_reason(&mut self.links, &mut self.sessions, number, reason)
+        let added = add_reason(&mut self.links, &mut self.sessions, number, reason);
+        self.busy = have_reasons(&self.sessions);
+        added
     }
 
     /// A session goes, and with it what has no reason any more.
@@ -139,6 +155,7 @@ impl LinkReasons {
         laws::reasons();
         laws::bounds();
         end_session(&mut self.links, &mut self.sessions, number);
+        self.busy = have_reasons(&self.sessions);
     }
 
     /// The last reason of a session is taken back.
@@ -150,6 +167,7 @@ impl LinkReasons {
         laws::reasons();
         laws::bounds();
         take_back_last(&mut self.links, &mut self.sessions, number);
+        self.busy = have_reasons(&self.sessions);
     }
 
     /// Of the reasons of a session those stay whose ID is asked with.
@@ -161,6 +179,7 @@ impl LinkReasons {
         laws::reasons();
         laws::bounds();
         keep_those(&mut self.links, &mut self.sessions, number, asked);
+        self.busy = have_reasons(&self.sessions);
     }
 
     /// A session has no reasons any more.
@@ -172,6 +191,7 @@ impl LinkReasons {
         laws::reasons();
         laws::bounds();
         clear_all(&mut self.links, &mut self.sessions, number);
+        self.busy = have_reasons(&self.sessions);
     }
     /// A row of a link was reconfirmed that had been heard at a moment. Where memory runs out nothing changes.
     pub fn doubt(&mut self, link: usize, key: Key, heard: u64) -> Result<(), NoMemory>

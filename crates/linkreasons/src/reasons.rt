@@ -1,6 +1,7 @@
 //! The reasons of one session.
 
 ghost use Rattle.std.specs.Prelude.{◌≡◌, ◌++◌, ◌∷◌, [], OnOk, OnErr, option_to_list};
+ghost use Rattle.push_base.specs.Cases.{is_empty};
 ghost use Rattle.linkreasons.specs.AllReasons.{but_last, with_reason, with_those};
 ghost use Rattle.linkreasons.specs.Changing.{last_of};
 
@@ -47,6 +48,13 @@ impl Reasons {
         ensures { result.now ≡ self.now }
     {
         &self.items
+    }
+
+    /// Whether there is none.
+    pub(crate) fn is_empty(&self) -> bool
+        ensures { result ≡ is_empty self.now }
+    {
+        self.items.is_empty()
     }
 
     /// One more behind the others.

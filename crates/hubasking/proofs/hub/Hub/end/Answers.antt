@@ -7,13 +7,19 @@ use Rattle.pushserver.specs.KeptHubs.{KeptHub}
 use Rattle.hubasking.specs.LinkAskings.{behind, kept_questions}
 use Rattle.hubasking.proofs.Ending.{EndsWith, end-asked, end-follow}
 use Rattle.hubasking.proofs.HubCalls.{asked-seen, ended-alike, stood}
+use Rattle.hubasking.proofs.Touching.{end-still}
 use Rattle.hubasking.proofs.hub.Hub.end.Goals as goal
 
-pub follow-requires : goal.follow-requires
-follow-requires c =
+pub follow-requires-clause-follows : goal.follow-requires-clause-follows
+follow-requires-clause-follows c =
     end-follow c.self.inside.hub c.end.new.self c.args.session c.self.inside.reasons c.end-2.new.self c.self.invariant c.end.ensures.kept
     (record { sessions = c.end-2.ensures.sessions; askings = c.end-2.ensures.askings; bounds = c.end-2.ensures.bounds })
     (disconnect c.self.invariant.plain c.args.session) (c.end.ensures.hub c.self.invariant.plain c.self.invariant.stands)
+
+pub follow-requires-clause-still : goal.follow-requires-clause-still
+follow-requires-clause-still c =
+    end-still c.self.inside.hub c.end.new.self c.args.session c.self.inside.reasons c.end-2.new.self c.self.invariant c.end.ensures.kept
+    (record { sessions = c.end-2.ensures.sessions; askings = c.end-2.ensures.askings; bounds = c.end-2.ensures.bounds })
 
 pub returns-clause-hub : goal.returns-clause-hub
 returns-clause-hub c = λ hub stands. c.end.ensures.hub hub (stood c.self.inside.hub c.self.inside.reasons c.args.self.now hub c.self.view_is stands)

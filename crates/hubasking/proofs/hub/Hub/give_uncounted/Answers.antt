@@ -11,14 +11,19 @@ use Rattle.hubasking.proofs.GiveSettles.{settles-ends}
 use Rattle.hubasking.proofs.HubCalls.{asked-alike, asked-seen, both-same, kept-same, on_err, stood}
 use Rattle.hubasking.proofs.GiveUndone.{undone}
 use Rattle.pushserver.proofs.Wanting.{may-want}
+use Rattle.hubasking.proofs.GiveStill.{settles-still}
 use Rattle.hubasking.proofs.hub.Hub.give_uncounted.Goals as goal
 
-pub follow-requires : goal.follow-requires
-follow-requires c =
+pub follow-requires-clause-follows : goal.follow-requires-clause-follows
+follow-requires-clause-follows c =
     (settles-ends c.reasons_are_followed.ensures.fewer c.reasons_are_followed.ensures.follows c.reasons_are_followed.ensures.anew c.bounds.ensures.reconfirming c.self.inside.hub c.give_uncounted.new.self c.args.session (length c.args.buf.now)
     (give c.self.invariant.plain c.args.session (length c.args.buf.now)).hub c.self.inside.reasons c.self.invariant c.tell.ensures.follows c.in-Ok.ensures.kept (c.in-Ok.ensures.ok c.self.invariant.plain c.self.invariant.stands).2
     c.in_ok-ready.ready c.make_ready.new.reasons c.settle.new.reasons c.in_ok-ready.ensures.ready
     (subst (λ (n : ℕ × ℕ). Settles c.give_uncounted.new.self c.args.session c.in_ok-ready.ready n.0 n.1 c.make_ready.new.reasons c.settle.new.reasons) (λ i. (c.count_of-count.ensures i, c.point-point.ensures.kept i)) c.settle.ensures)).0
+
+pub follow-requires-clause-still : goal.follow-requires-clause-still
+follow-requires-clause-still c =
+    settles-still c.self.inside.hub c.give_uncounted.new.self c.args.session (length c.args.buf.now) c.self.inside.reasons c.self.invariant c.in-Ok.ensures.kept c.in_ok-ready.ready c.make_ready.new.reasons c.settle.new.reasons c.count_of-count.result c.point-point.result c.in_ok-ready.ensures.ready c.settle.ensures
 
 pub returns-in-Ok-clause-asking : goal.returns-in-Ok-clause-asking
 returns-in-Ok-clause-asking c =

@@ -6,15 +6,20 @@ use Rattle.pushserver.specs.Calls.{hears}
 use Rattle.pushserver.specs.Hubs.{hear}
 use Rattle.hubasking.proofs.Calls.{hear-leaves}
 use Rattle.hubasking.proofs.HubCalls.{asked-alike, asked-heard, asked-seen, can-follow-heard, kept-same, on_err, seen-same, stood}
+use Rattle.hubasking.proofs.Touching.{hear-still}
 use Rattle.hubasking.proofs.hub.Hub.hear_uncounted.Goals as goal
 
 pub lower-requires : goal.lower-requires
 lower-requires c = subst (λ (n : ℕ). n ≤ max_moment) (sym c.now-now.ensures.kept) c.self.invariant.timely
 
-pub follow-requires : goal.follow-requires
-follow-requires c =
+pub follow-requires-clause-follows : goal.follow-requires-clause-follows
+follow-requires-clause-follows c =
     can-follow-heard c.self.inside.hub c.hear_uncounted.new.self c.self.inside.reasons c.lower.new.reasons c.args.link c.now-now.result c.in_ok-hearing.hearing c.in_ok-heard.heard (hear c.self.inside.hub c.args.link c.args.datagram.now) (hear c.self.invariant.plain c.args.link c.args.datagram.now).1
     c.self.invariant c.in_ok-heard.ensures.kept.1 (hear-leaves c.self.inside.hub c.args.link c.args.datagram.now c.in_ok-hearing.hearing c.in_ok-hearing.ensures) c.in_ok-heard.ensures.kept.0 c.now-now.ensures.kept (c.in_ok-heard.ensures.ok c.self.invariant.plain c.self.invariant.stands).1 c.lower.ensures
+
+pub follow-requires-clause-still : goal.follow-requires-clause-still
+follow-requires-clause-still c =
+    hear-still c.self.inside.hub c.hear_uncounted.new.self c.self.inside.reasons c.lower.new.reasons c.args.link c.now-now.result c.args.datagram.now c.in_ok-hearing.hearing c.in_ok-heard.heard c.self.invariant c.in_ok-heard.ensures.kept.1 c.lower.ensures
 
 pub invariant_of-self : goal.invariant_of-self
 invariant_of-self c = kept-same c.self.inside.hub c.hear_uncounted.new.self c.self.inside.reasons c.in_err-heard.ensures.same c.self.invariant

@@ -5,6 +5,7 @@ use Rattle.pushserver.specs.Calls.{HubCall, goes, called}
 use Rattle.pushserver.specs.Hubs.{link_gone}
 use Rattle.hubasking.proofs.Calls.{going-leaves}
 use Rattle.hubasking.proofs.HubCalls.{asked-alike, asked-behind, asked-seen, can-follow-call, kept-same, on_err, seen-same, stood}
+use Rattle.hubasking.proofs.Touching.{going-still}
 use Rattle.hubasking.proofs.hub.Hub.link_gone_uncounted.Goals as goal
 
 pub invariant_of-self : goal.invariant_of-self
@@ -16,9 +17,12 @@ returns-in_err-gone-clause-err c = on_err c.from_residual.result (λ hub stands.
 pub returns-in_err-gone-clause-same : goal.returns-in_err-gone-clause-same
 returns-in_err-gone-clause-same c = on_err c.from_residual.result (seen-same c.self.inside.hub c.link_gone_uncounted.new.self c.self.inside.reasons c.args.self.now c.self.view_is c.in_err-gone.ensures.same)
 
-pub follow-requires : goal.follow-requires
-follow-requires c =
+pub follow-requires-clause-follows : goal.follow-requires-clause-follows
+follow-requires-clause-follows c =
     can-follow-call c.self.inside.hub ((link_gone c.self.inside.hub c.args.link).1) c.link_gone_uncounted.new.self c.self.inside.reasons (λ hub. (link_gone hub c.args.link).1) c.self.invariant c.in_ok-gone.ensures.kept.1 (going-leaves c.bounds.ensures.going c.self.inside.hub c.args.link) (λ hub stands. (c.in_ok-gone.ensures.ok hub stands).1)
+
+pub follow-requires-clause-still : goal.follow-requires-clause-still
+follow-requires-clause-still c = going-still c.self.inside.hub c.link_gone_uncounted.new.self c.self.inside.reasons c.args.link c.self.invariant c.in_ok-gone.ensures.kept.1
 
 pub returns-clause-ok : goal.returns-clause-ok
 returns-clause-ok c = λ hub stands. c.in_ok-gone.ensures.ok hub (stood c.self.inside.hub c.self.inside.reasons c.args.self.now hub c.self.view_is stands)

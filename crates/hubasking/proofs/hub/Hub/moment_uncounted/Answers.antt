@@ -5,6 +5,7 @@ use Rattle.pushserver.specs.Calls.{HubCall, moves, called}
 use Rattle.pushserver.specs.Hubs.{moment}
 use Rattle.hubasking.proofs.Calls.{moment-leaves}
 use Rattle.hubasking.proofs.HubCalls.{asked-alike, asked-behind, asked-seen, can-follow-call, kept-same, on_err, seen-same, stood}
+use Rattle.hubasking.proofs.Touching.{moment-still}
 use Rattle.hubasking.proofs.hub.Hub.moment_uncounted.Goals as goal
 
 pub invariant_of-self : goal.invariant_of-self
@@ -16,9 +17,12 @@ returns-in_err-moment_uncounted-clause-err c = on_err c.from_residual.result (λ
 pub returns-in_err-moment_uncounted-clause-same : goal.returns-in_err-moment_uncounted-clause-same
 returns-in_err-moment_uncounted-clause-same c = on_err c.from_residual.result (seen-same c.self.inside.hub c.moment_uncounted.new.self c.self.inside.reasons c.args.self.now c.self.view_is c.in_err-moment_uncounted.ensures.same)
 
-pub follow-requires : goal.follow-requires
-follow-requires c =
+pub follow-requires-clause-follows : goal.follow-requires-clause-follows
+follow-requires-clause-follows c =
     can-follow-call c.self.inside.hub (moment c.self.inside.hub c.args.at) c.moment_uncounted.new.self c.self.inside.reasons (λ hub. moment hub c.args.at) c.self.invariant c.in_ok-moment_uncounted.ensures.kept (moment-leaves c.bounds.ensures.ending c.self.inside.hub c.args.at c.requires) (λ hub stands. c.in_ok-moment_uncounted.ensures.ok hub stands)
+
+pub follow-requires-clause-still : goal.follow-requires-clause-still
+follow-requires-clause-still c = moment-still c.self.inside.hub c.moment_uncounted.new.self c.self.inside.reasons c.args.at c.touched_by-touched.result c.self.invariant c.in_ok-moment_uncounted.ensures.kept c.touched_by-touched.ensures
 
 pub returns-clause-ok : goal.returns-clause-ok
 returns-clause-ok c = λ hub stands. c.in_ok-moment_uncounted.ensures.ok hub (stood c.self.inside.hub c.self.inside.reasons c.args.self.now hub c.self.view_is stands)

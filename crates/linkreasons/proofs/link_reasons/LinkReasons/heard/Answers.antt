@@ -9,10 +9,10 @@ use Rattle.linkreasons.proofs.OneAsked.{changed-others, hears-bounds}
 use Rattle.linkreasons.proofs.link_reasons.LinkReasons.heard.Goals as goal
 
 pub invariant_of-self : goal.invariant_of-self
-invariant_of-self c = (is-heard c.self.inside.most (these c.self.inside.links.items c.self.inside.sessions.items) c.self.invariant c.args.link c.args.now c.args.hearing.now c.hear_on.new.links.items c.hear_on.ensures).counted
+invariant_of-self c = ((is-heard c.self.inside.most (these c.self.inside.links.items c.self.inside.sessions.items) c.self.invariant.0 c.args.link c.args.now c.args.hearing.now c.hear_on.new.links.items c.hear_on.ensures).counted, c.self.invariant.1)
 
 pub returns-clause-askings : goal.returns-clause-askings
-returns-clause-askings c = (is-heard c.self.inside.most (these c.self.inside.links.items c.self.inside.sessions.items) c.self.invariant c.args.link c.args.now c.args.hearing.now c.hear_on.new.links.items c.hear_on.ensures).askings ∙ ap askings_of c.self.view_is
+returns-clause-askings c = (is-heard c.self.inside.most (these c.self.inside.links.items c.self.inside.sessions.items) c.self.invariant.0 c.args.link c.args.now c.args.hearing.now c.hear_on.new.links.items c.hear_on.ensures).askings ∙ ap askings_of c.self.view_is
 
 pub returns-clause-bounds : goal.returns-clause-bounds
 returns-clause-bounds c = λ rules rows bounds.

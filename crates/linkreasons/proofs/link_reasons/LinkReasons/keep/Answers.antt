@@ -1,11 +1,13 @@
+use Rattle.std.proofs.Common.{ap, ◌∙◌}
+use Rattle.linkreasons.specs.Changing.{have_reasons}
 use Rattle.linkreasons.proofs.Calls.{keeps-those, seen-askings, seen-bounds, these}
 use Rattle.linkreasons.proofs.link_reasons.LinkReasons.keep.Goals as goal
 
 pub invariant_of-self : goal.invariant_of-self
-invariant_of-self c = (keeps-those c.reasons.ensures.unwanting c.bounds.ensures.reasons c.self.inside.most (these c.self.inside.links.items c.self.inside.sessions.items) c.self.invariant c.args.number c.args.asked.now c.keep_those.new.links.items c.keep_those.new.sessions.items c.keep_those.ensures.sessions c.keep_those.ensures.links).counted
+invariant_of-self c = ((keeps-those c.reasons.ensures.unwanting c.bounds.ensures.reasons c.self.inside.most (these c.self.inside.links.items c.self.inside.sessions.items) c.self.invariant.0 c.args.number c.args.asked.now c.keep_those.new.links.items c.keep_those.new.sessions.items c.keep_those.ensures.sessions c.keep_those.ensures.links).counted, c.have_reasons-self-inside.ensures ∙ ap have_reasons c.deref.ensures.value)
 
 pub returns-clause-askings : goal.returns-clause-askings
-returns-clause-askings c = seen-askings (λ a. a) c.self.inside.most (these c.self.inside.links.items c.self.inside.sessions.items) c.args.self.now (these c.keep_those.new.links.items c.keep_those.new.sessions.items) (keeps-those c.reasons.ensures.unwanting c.bounds.ensures.reasons c.self.inside.most (these c.self.inside.links.items c.self.inside.sessions.items) c.self.invariant c.args.number c.args.asked.now c.keep_those.new.links.items c.keep_those.new.sessions.items c.keep_those.ensures.sessions c.keep_those.ensures.links) c.self.view_is
+returns-clause-askings c = seen-askings (λ a. a) c.self.inside.most (these c.self.inside.links.items c.self.inside.sessions.items) c.args.self.now (these c.keep_those.new.links.items c.keep_those.new.sessions.items) (keeps-those c.reasons.ensures.unwanting c.bounds.ensures.reasons c.self.inside.most (these c.self.inside.links.items c.self.inside.sessions.items) c.self.invariant.0 c.args.number c.args.asked.now c.keep_those.new.links.items c.keep_those.new.sessions.items c.keep_those.ensures.sessions c.keep_those.ensures.links) c.self.view_is
 
 pub returns-clause-bounds : goal.returns-clause-bounds
-returns-clause-bounds c = seen-bounds (these c.self.inside.links.items c.self.inside.sessions.items) c.args.self.now (these c.keep_those.new.links.items c.keep_those.new.sessions.items) (keeps-those c.reasons.ensures.unwanting c.bounds.ensures.reasons c.self.inside.most (these c.self.inside.links.items c.self.inside.sessions.items) c.self.invariant c.args.number c.args.asked.now c.keep_those.new.links.items c.keep_those.new.sessions.items c.keep_those.ensures.sessions c.keep_those.ensures.links).bounds c.self.view_is
+returns-clause-bounds c = seen-bounds (these c.self.inside.links.items c.self.inside.sessions.items) c.args.self.now (these c.keep_those.new.links.items c.keep_those.new.sessions.items) (keeps-those c.reasons.ensures.unwanting c.bounds.ensures.reasons c.self.inside.most (these c.self.inside.links.items c.self.inside.sessions.items) c.self.invariant.0 c.args.number c.args.asked.now c.keep_those.new.links.items c.keep_those.new.sessions.items c.keep_those.ensures.sessions c.keep_those.ensures.links).bounds c.self.view_is

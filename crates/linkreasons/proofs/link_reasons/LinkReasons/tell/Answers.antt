@@ -5,7 +5,7 @@ use Rattle.linkreasons.proofs.Whole.{follows}
 use Rattle.linkreasons.proofs.link_reasons.LinkReasons.tell.Goals as goal
 
 pub returns-clause-follows : goal.returns-clause-follows
-returns-clause-follows c = subst AreFollowed c.self.view_is (follows c.self.inside.most _ c.self.invariant)
+returns-clause-follows c = subst AreFollowed c.self.view_is (follows c.self.inside.most _ c.self.invariant.0)
 
 pub returns-clause-numbers : goal.returns-clause-numbers
-returns-clause-numbers c = subst (λ (a : AllReasons). AreDistinct a.sessions) c.self.view_is c.self.invariant.numbers
+returns-clause-numbers c = subst (λ (a : AllReasons). AreDistinct a.sessions) c.self.view_is c.self.invariant.0.numbers
