@@ -1,6 +1,6 @@
 //! A start state with its number, and the entries since.
 
-ghost use Rattle.std.specs.Prelude.{◌≡◌, ◌≤◌, ◌<◌, ◌+◌, ◌-◌, ◌&&◌, ℕ, [], true, nat_le, nat_lt, drop, length, sum_by, IfOk, IfSome, OnOk, OnErr};
+ghost use Rattle.std.specs.Prelude.{◌≡◌, ◌≤◌, ◌<◌, ◌+◌, ◌++◌, ◌∷◌, ◌-◌, ◌&&◌, ℕ, [], true, nat_le, nat_lt, drop, length, sum_by, IfOk, IfSome, OnOk, OnErr};
 ghost use Rattle.std.specs.List.{AllByRecursion};
 ghost use Rattle.push_base.specs.Limits.{max_moment, max_number};
 ghost use Rattle.history.specs.States.{State, entry_size, journal_has_room, max_journal_entries, max_journal_octets, state_at};
@@ -19,9 +19,10 @@ use rrset::NoMemory;
 use std::alloc::Global;
 use std::collections::VecDeque;
 use std::marker::Model;
+use std::mem;
 
-/// A start state with its number and its moment, perhaps homes ahead of it, the entries since and their octets, and how many
-/// entries of each group there ever were.
+/// A start state with its number and its moment, perhaps homes ahead of it, the entries since and their octets, how many
+/// entries of each group there ever were, and entries that were forgotten at once and are dropped little by little.
 #[derive(Debug, Drop)]
 pub(crate) struct Past {
     start: Homes,
@@ -31,6 +32,7 @@ pub(crate) struct Past {
     entries: VecDeque<Entry>,
     octets: u64,
     counts: Totals,
+    forgotten: VecDeque<Entry>,
 }
 
 /// The most entries of a journal.
@@ -41,6 +43,9 @@ const MAX_OCTETS: u64 = 67_108_864;
 
 /// The least number of entries with which the journal starts anew.
 const MANY_ENTRIES: usize = 1_024;
+
+/// How many forgotten entries are dropped where one is appended: all of a full journal before it can start anew.
+const FEW_ENTRIES: usize = 64;
 
 impl Model for Past {
     ghost use Rattle.std.specs.Prelude.{IfSome};
@@ -105,6 +110,46 @@ fn forget(entries: &mut VecDeque<Entry>, count: usize) -> u64
         }
     }
     octets
+}
+
+/// Puts an entry behind others, of so many octets, and forgets so many of the oldest of those. It gives how many octets these
+/// had. Where all of them go they are handed over as they are: to drop them takes as long as thousands of entries do.
+fn put_last(
+    alloc: Global,
+    entries: &mut VecDeque<Entry>,
+    forgotten: &mut VecDeque<Entry>,
+    octets: u64,
+    entry: Entry,
+    count: usize,
+) -> Result<u64, NoMemory>
+    requires sum { octets ≡ sum_by entry_size entries.old.items }
+    requires all { sum_by entry_size (entries.old.items ++ entry ∷ []) ≤ max_number }
+    requires within { count ≤ length entries.old.items }
+    ensures items { OnOk result (entries.new.items ≡ drop count (entries.old.items ++ entry ∷ [])) }
+    ensures octets { IfOk result (λ gone. gone + sum_by entry_size entries.new.items ≡ sum_by entry_size (entries.old.items ++ entry ∷ [])) }
+    ensures none { OnErr result (entries.new.items ≡ entries.old.items) }
+{
+    if count == entries.len() {
+        let mut anew = VecDeque::new(alloc);
+        anew.push_back(entry)?;
+        *forgotten = mem::replace(entries, anew);
+        return Ok(octets);
+    }
+    entries.push_back(entry)?;
+    Ok(forget(entries, count))
+}
+
+/// Drops a few forgotten entries, and their room behind the last.
+fn drop_few(alloc: Global, forgotten: &mut VecDeque<Entry>) {
+    'few: for _ in 0..FEW_ENTRIES {
+        match forgotten.pop_front() {
+            Some(_) => {}
+            None => {
+                *forgotten = VecDeque::new(alloc);
+                return;
+            }
+        }
+    }
 }
 
 /// What becomes of the start state where the oldest entries are forgotten.
@@ -240,6 +285,7 @@ impl Past {
             entries: VecDeque::new(homes.allocator()),
             octets: 0,
             counts: Totals::none(),
+            forgotten: VecDeque::new(homes.allocator()),
         })
     }
 
@@ -341,10 +387,18 @@ impl Past {
             moment,
         )?;
         let left = self.entries.len() - count;
-        self.entries.push_back(entry)?;
+        let alloc = homes.allocator();
+        drop_few(alloc, &mut self.forgotten);
+        let gone = put_last(
+            alloc,
+            &mut self.entries,
+            &mut self.forgotten,
+            self.octets,
+            entry,
+            count,
+        )?;
         self.moment = become_later(&mut self.start, self.moment, later);
-        let forgotten = forget(&mut self.entries, count);
-        self.octets = self.octets + size - forgotten;
+        self.octets = self.octets + size - gone;
         self.number += count as u64;
         self.counts = counts;
         self.ahead = ahead_later(self.ahead.take(), count, left, homes, moment, keep, point);
