@@ -102,7 +102,7 @@ rests-found : (later : KeptHub) (number : ℕ) (o : Option KeptSession) (s : Kep
 rests-found later number None s at is = absurd cc
 rests-found later number (Some t) s at is = ap (λ (o : Option KeptSession). elim o as (λ _. Bool) [ None ↦ true | Some session ↦ is_empty session.subscriptions.asked ]) at ∙ (let same : t ≡ s = cc in ap (λ (u : KeptSession). is_empty u.subscriptions.asked) same)
 
-rests-as : (later : KeptHub) (e : ℕ × KeptSession) → session_in e.0 later.sessions ≡ Some e.1 → rests later e.0 ≡ is_empty e.1.subscriptions.asked
+pub rests-as : (later : KeptHub) (e : ℕ × KeptSession) → session_in e.0 later.sessions ≡ Some e.1 → rests later e.0 ≡ is_empty e.1.subscriptions.asked
 rests-as later e at = rests-found later e.0 (session_of later e.0) e.1 refl at
 
 clear-zip : (later : KeptHub) (number : ℕ) → rests later number ≡ true → (es : Sessions) (ys : Numbered KeptSession) → AreFound later.sessions ys → AllZip (StillAsks later) es ys → AllZip (StillAsks later) (in_session number (λ _. []) es) ys

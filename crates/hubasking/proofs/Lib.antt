@@ -1,8 +1,8 @@
 pub mod Standing
 pub mod Leading
 pub mod StillRows
-pub mod Places
 pub mod Clearing
+pub mod Places
 pub mod Refreshing
 pub mod Questions
 pub mod Followed

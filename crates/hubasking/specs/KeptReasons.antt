@@ -1,6 +1,6 @@
 -- What is kept of the reasons to ask, beside a hub.
 --     reasons_of state asked, session_reasons state sessions      the reasons of one session's questions; of each session's
---     rests hub number      the session of a number asks nothing
+--     rests hub number, rests_in entry      the session of a number asks nothing; that in a place
 --     MatchesLink rows reasons, AreKept hub reasons      what always holds of a link; of all
 --     Follows state before later, CanFollow later reasons      where sessions ask as before or nothing any more; what may follow a call
 --     Lowers heard link now hearing old new, HearingIs      bounds of a link that was heard; what is read of its datagram
@@ -45,6 +45,11 @@ reasons_of state asked = flat_map (reasons_for state) asked
 
 abbrev pub session_reasons : State → Numbered KeptSession → List (ℕ × List Reason)
 session_reasons state sessions = map (λ e. (e.0, reasons_of state e.1.subscriptions.asked)) sessions
+
+-- the session in a place
+abbrev pub rests_in : Option (ℕ × KeptSession) → Bool
+rests_in None = true
+rests_in (Some e) = is_empty e.1.subscriptions.asked
 
 -- where there is no such session, too
 abbrev pub rests : KeptHub → ℕ → Bool

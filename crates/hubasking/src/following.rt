@@ -1,6 +1,6 @@
 //! What links are asked follows the reasons for it.
 
-ghost use Rattle.std.specs.Prelude.{◌≡◌, None, false, slice_get};
+ghost use Rattle.std.specs.Prelude.{◌≡◌, None, Some, false, option_map, slice_get};
 ghost use Rattle.std.specs.List.{AllZip};
 ghost use Rattle.history.specs.Kept.{state_of};
 ghost use Rattle.linkcache.specs.Rows.{at_moment};
@@ -8,7 +8,7 @@ ghost use Rattle.linkreasons.specs.AllReasons.{askings_of};
 ghost use Rattle.pushserver.specs.Hubs.{state_now};
 ghost use Rattle.hubasking.specs.Following.{ClearsAt, EndsBut, LeadFrom, RefreshesAt, StaysAt, StillBut, doubts_in};
 ghost use Rattle.hubasking.specs.LinkAskings.{behind, kept_questions};
-ghost use Rattle.hubasking.specs.KeptReasons.{AreKept, CanFollow, HasBounds, MatchesLink, followed, rests, session_reasons};
+ghost use Rattle.hubasking.specs.KeptReasons.{AreKept, CanFollow, HasBounds, MatchesLink, followed, rests, rests_in, session_reasons};
 
 use history::Homes;
 use linkcache::Cache;
@@ -26,25 +26,35 @@ pub(crate) enum Touched {
     Links,
 }
 
-/// Whether a session asks nothing.
-fn rests(hub: &pushserver::Hub, number: u64) -> bool
-    ensures { result ≡ rests hub.now number }
+/// Whether the session in a place asks nothing.
+fn rests_at(hub: &pushserver::Hub, place: usize) -> bool
+    ensures { result ≡ rests_in (slice_get hub.now.sessions place) }
 {
-    match hub.session(number) {
-        Some(session) => session.subscriptions().len() == 0,
+    match hub.session_at(place) {
+        Some((_, session)) => session.subscriptions().len() == 0,
         None => true,
     }
 }
 
-/// A session of a place has no reasons where it asks nothing.
+/// Whether a session asks nothing, which stands in this place.
+fn rests(hub: &pushserver::Hub, reasons: &LinkReasons, place: usize, number: u64) -> bool
+    requires follows { CanFollow hub.now reasons.now }
+    requires there { option_map (λ e. e.0) (slice_get reasons.now.sessions place) ≡ Some number }
+    ensures { result ≡ rests hub.now number }
+{
+    rests_at(hub, place)
+}
+
+/// The session in a place has no reasons where it asks nothing.
 fn clear_at(hub: &pushserver::Hub, reasons: &mut LinkReasons, place: usize)
+    requires { CanFollow hub.now reasons.old }
     ensures { ClearsAt hub.now place reasons.old reasons.new }
 {
     let Some((number, count)) = reasons.session(place) else {
         return;
     };
     if count > 0 {
-        if rests(hub, number) {
+        if rests(hub, reasons, place, number) {
             reasons.clear(number);
         }
     }

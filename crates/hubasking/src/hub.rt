@@ -300,7 +300,7 @@ impl Hub {
     pub fn session(&self, place: usize) -> Option<(u64, bool)>
         ensures { result ≡ session_at self.now.hub place }
     {
-        session_at(&self.hub, &self.reasons, place)
+        session_at(&self.hub, place)
     }
 
     /// Whether there is a session of a number.

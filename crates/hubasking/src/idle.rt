@@ -1,10 +1,8 @@
 //! Sessions for which nothing waits.
 
 ghost use Rattle.std.specs.Prelude.{◌≡◌};
-ghost use Rattle.hubasking.specs.Idle.{is_idle, is_idle_in, session_at};
-ghost use Rattle.hubasking.specs.KeptReasons.{AreKept};
+ghost use Rattle.hubasking.specs.Idle.{StandsForOne, is_idle, session_at};
 
-use linkreasons::LinkReasons;
 use pushsession::{PushSession, SessionStatus};
 
 /// Whether a session goes on, and no octets, no whole message and no name wait.
@@ -20,27 +18,13 @@ fn is_idle(session: &PushSession) -> bool
     }
 }
 
-/// Whether nothing waits for the session of a number.
-fn is_idle_in(hub: &pushserver::Hub, number: u64) -> bool
-    ensures { result ≡ is_idle_in hub.now number }
-{
-    match hub.session(number) {
-        Some(session) => is_idle(session),
-        None => true,
-    }
-}
-
 /// The number of the session in a place, and whether nothing waits for it.
-pub(crate) fn session_at(
-    hub: &pushserver::Hub,
-    reasons: &LinkReasons,
-    place: usize,
-) -> Option<(u64, bool)>
-    requires { AreKept hub.now reasons.now }
+pub(crate) fn session_at(hub: &pushserver::Hub, place: usize) -> Option<(u64, bool)>
+    requires { StandsForOne hub.now }
     ensures { result ≡ session_at hub.now place }
 {
-    match reasons.session(place) {
-        Some((number, _)) => Some((number, is_idle_in(hub, number))),
+    match hub.session_at(place) {
+        Some((number, session)) => Some((number, is_idle(session))),
         None => None,
     }
 }

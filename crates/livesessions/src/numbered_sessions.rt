@@ -1,6 +1,6 @@
 //! Sessions with their numbers.
 
-ghost use Rattle.std.specs.Prelude.{◌≡◌, ◌==◌, ◌++◌, ◌∷◌, [], false, None, Some, filter, length, not, position, IfOk, MatchOption, OnOk, OnErr};
+ghost use Rattle.std.specs.Prelude.{◌≡◌, ◌==◌, ◌++◌, ◌∷◌, [], false, None, Some, filter, length, not, position, slice_get, IfOk, MatchOption, OnOk, OnErr};
 ghost use Rattle.std.specs.Borrow.{sem};
 ghost use Rattle.std.specs.List.{list_any};
 ghost use Rattle.subscr.specs.Watching.{watching_of};
@@ -107,6 +107,16 @@ impl Sessions {
     {
         match place_of(&self.numbered, number) {
             Some(place) => Some(&self.numbered[place].1),
+            None => None,
+        }
+    }
+
+    /// The session in a place, counted from 0, with its number.
+    pub fn at(&self, place: usize) -> Option<(u64, &PushSession)>
+        ensures { MatchOption result (slice_get self.now place ≡ None) (λ e. slice_get self.now place ≡ Some (e.0, e.1.now)) }
+    {
+        match self.numbered.get(place) {
+            Some(entry) => Some((entry.0, &entry.1)),
             None => None,
         }
     }

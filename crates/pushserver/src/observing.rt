@@ -1,6 +1,6 @@
 //! What is seen of a hub.
 
-ghost use Rattle.std.specs.Prelude.{◌≡◌, MatchOption, None, Some, is_some, IfOk};
+ghost use Rattle.std.specs.Prelude.{◌≡◌, MatchOption, None, Some, is_some, slice_get, IfOk};
 ghost use Rattle.history.specs.Kept.{state_of};
 ghost use Rattle.history.specs.States.{reconfirm_key};
 ghost use Rattle.history.specs.Totals.{totals};
@@ -30,6 +30,13 @@ impl Hub {
         ensures { MatchOption result (session_of self.now session ≡ None) (λ found. session_of self.now session ≡ Some found.now) }
     {
         self.keeping.sessions.get(session)
+    }
+
+    /// The session in a place, counted from 0 in the order in which they came, with its number.
+    pub fn session_at(&self, place: usize) -> Option<(u64, &PushSession)>
+        ensures { MatchOption result (slice_get self.now.sessions place ≡ None) (λ e. slice_get self.now.sessions place ≡ Some (e.0, e.1.now)) }
+    {
+        self.keeping.sessions.at(place)
     }
 
     /// The link and the key that a reconfirmation of a record is about (RFC 8765, 6.5). Nothing exactly where the home of its

@@ -19,6 +19,15 @@ pub sessions-preserved : goal.sessions-preserved
 sessions-preserved c =
     clear-turn c.reasons_are_followed.ensures.fewer c.args.hub.now (all-found c.args.hub.now c.requires.plain c.requires.stands) c.args.reasons.now c.sessions.reasons c.clear_at.new.reasons c.sessions.place c.sessions.invariant c.clear_at.ensures
 
+pub clear_at-requires : goal.clear_at-requires
+clear_at-requires c = record {
+  plain = c.requires.plain;
+  stands = c.requires.stands;
+  timely = c.requires.timely;
+  sessions = c.sessions.invariant.sessions;
+  links = c.sessions.invariant.bounds;
+}
+
 pub returns-clause-sessions : goal.returns-clause-sessions
 returns-clause-sessions c =
     clear-ends c.args.hub.now (all-found c.args.hub.now c.requires.plain c.requires.stands) c.args.reasons.now c.sessions.reasons c.sessions.place (subst (λ (n : ℕ). n ≤ c.sessions.place) c.len-place-end.ensures c.sessions-test.false) c.sessions.invariant
