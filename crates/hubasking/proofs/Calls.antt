@@ -3,12 +3,12 @@
 --     matched      the bounds that there were
 --     update-leaves, going-leaves, moment-leaves, hear-leaves      behind these
 --     leaves-forgetting      where the oldest entries are forgotten
---     lowered-same      lower bounds change nothing that is asked
+--     bounds-lowered, lowered-same      lower bounds are bounds, and change nothing that is asked
 use Rattle.std.proofs.Common.{◌≡◌, ℕ, zero, suc, ◌≤◌, Bool, true, false, cond, not, ltb, ◌&&◌, List, [], ◌∷◌, length, map, Option, Some, None, Result, Ok, Err, refl, sym, ap, subst, ◌∙◌}
 use Rattle.std.specs.Prelude.{slice_get, IfSome, ◌==◌}
 use Rattle.std.specs.List.{AllZip}
 use Rattle.std.proofs.lemmas.List.{length-map}
-use Rattle.push_base.specs.Cases.{◌>>=◌, changed_at}
+use Rattle.push_base.specs.Cases.{◌>>=◌, changed_at, fault_as}
 use Rattle.push_base.specs.Limits.{max_moment}
 use Rattle.dnsname.specs.Names.{Labels}
 use Rattle.rrset.specs.RecordSet.{RecordSet}
@@ -32,15 +32,14 @@ use Rattle.history.specs.States.{State, accepts, after, home_names, link_after, 
 use Rattle.history.specs.declared.entry.Entry.{Entry}
 use Rattle.history.specs.declared.entry.Entry.TheVariants as entries
 use Rattle.history.proofs.UpdateSteps.{asked_step, zone_step, updated-steps}
-use Rattle.pushserver.specs.Hubs.{can_enter, each_session, entered_keeping, hear, link_gone, moment, now, state_now, update, keeps_now}
+use Rattle.pushserver.specs.Hubs.{can_enter, each_session, entered_keeping, hear, link_gone, moment, now, state_now, update, keeps_now, why_not}
 use Rattle.pushserver.specs.KeptHubs.{KeptHub, Forgets}
-use Rattle.pushserver.specs.declared.given.Heard.{Heard}
-use Rattle.pushserver.specs.declared.given.Heard.TheVariants.{Entered, Ignored}
+use Rattle.pushserver.specs.declared.given.Why.{Why}
 use Rattle.livesessions.proofs.SessionLists.{number-itself, same-number}
 use Rattle.pushserver.proofs.hub_steps.Pairs.{zip-all}
 use Rattle.pushserver.proofs.hub_steps.Cases.{enters_hearing, hear_as, enters_going, enters_update, update_as, moment_as}
-use Rattle.hubasking.specs.KeptReasons.{HasBounds, HearingIs, Lowers, LowersFor, MatchesLink}
-use Rattle.hubasking.proofs.Clearing.{get-zip, zip-get, zip-length}
+use Rattle.hubasking.specs.KeptReasons.{HasBounds, Lowers, LowersFor, MatchesLink}
+use Rattle.hubasking.proofs.Clearing.{bounds-kept, get-zip, zip-get, zip-length}
 use Rattle.hubasking.proofs.Resting.{Rests, rests-entered, rests-itself, rests-timed}
 
 pub record Leaves (k later : KeptHub) : Type 0 where
@@ -207,33 +206,40 @@ heard-bounds link t h f rows ls old new zip lowers =
         let apart : i ≡ link → ⊥ = (λ same. (let wrong : true ≡ false = sym (number-itself link) ∙ ap (λ (n : ℕ). n == link) (sym same) ∙ is in absurd cc)) in
         subst (λ (o : Option ReasonsOfLink). IfSome o (HasBounds m)) (sym (lowers.others i is)) (zip-get HasBounds ls old.links zip i m (sym (changed-beside link f ls i apart) ∙ at))
 
--- homes, sessions and the moment, and bounds where they are lowered
-pub record LeavesHeard (k : KeptHub) (link : ℕ) (hearing : Option Hearing) (answer : Heard × KeptHub) : Type 0 where
-  pub rests : Rests k answer.1
-  pub timely : now answer.1 ≡ now k
-  pub bounds : (r new : AllReasons) → AllZip HasBounds (state_now k).links r.links → Lowers answer.0 link (now k) hearing r new → AllZip HasBounds (state_now answer.1).links new.links
+-- bounds that are lowered stay bounds
+pub bounds-lowered : (ls : List LinkState) (link t : ℕ) (read : Result Hearing Why) (r new : AllReasons) → Lowers link t read r new → AllZip HasBounds ls r.links → AllZip HasBounds ls new.links
+bounds-lowered ls link t (Err why) r new same b = subst (λ (x : AllReasons). AllZip HasBounds ls x.links) (sym same) b
+bounds-lowered ls link t (Ok h) r new lowers b = bounds-kept ls r new (ap (λ (a : List LinkAsking). length a) (sym lowers.askings)) lowers.keeps b
 
-pub hear-leaves : (k : KeptHub) (link : ℕ) (datagram : List ℕ) (hearing : Option Hearing) → HearingIs hearing (hearing_of datagram) → LeavesHeard k link hearing (hear k link datagram)
-hear-leaves k link datagram hearing is = by (hearing_of datagram) is
+-- homes, sessions and the moment, and bounds where they were lowered
+pub record LeavesHeard (k : KeptHub) (link : ℕ) (read : Result Hearing Why) (later : KeptHub) : Type 0 where
+  pub rests : Rests k later
+  pub timely : now later ≡ now k
+  pub bounds : (r new : AllReasons) → AllZip HasBounds (state_now k).links r.links → Lowers link (now k) read r new → AllZip HasBounds (state_now later).links new.links
+
+pub hear-leaves : (k : KeptHub) (link : ℕ) (datagram : List ℕ) (read : Result Hearing Why) → fault_as why_not (hearing_of datagram) ≡ read → LeavesHeard k link read (hear k link datagram).1
+hear-leaves k link datagram read is = by (hearing_of datagram) is
   where
-    entered : (h : Hearing) → LeavesHeard k link (Some h) (Entered, entered_keeping (entries.Heard link h) k)
+    stays : LeavesHeard k link read k
+    stays = record { rests = rests-itself k; timely = refl; bounds = λ r new b lowers. bounds-lowered (state_now k).links link (now k) read r new lowers b }
+
+    entered : (h : Hearing) → LeavesHeard k link (Ok h) (entered_keeping (entries.Heard link h) k)
     entered h = record {
       rests = rests-entered (entries.Heard link h) k;
       timely = refl;
       bounds = λ r new b lowers. heard-bounds link (now k) h (link_after (entries.Heard link h) (state_now k).now) (λ l. refl) (state_now k).links r new b lowers;
     }
 
-    by_test : (h : Hearing) (a b : Bool) → LeavesHeard k link (Some h) (enters_hearing k link h a b)
-    by_test h true true = entered h
-    by_test h true false = record { rests = rests-itself k; timely = refl; bounds = λ r new b same. subst (λ (x : AllReasons). AllZip HasBounds (state_now k).links x.links) (sym same) b }
-    by_test h false b = record { rests = rests-itself k; timely = refl; bounds = λ r new b same. subst (λ (x : AllReasons). AllZip HasBounds (state_now k).links x.links) (sym same) b }
+    by_test : (h : Hearing) → Ok h ≡ read → (a b : Bool) → LeavesHeard k link read (enters_hearing k link h a b).1
+    by_test h same true true = subst (λ (x : Result Hearing Why). LeavesHeard k link x (entered_keeping (entries.Heard link h) k)) same (entered h)
+    by_test h same true false = stays
+    by_test h same false b = stays
 
-    by : (r : Result Hearing HearFault) → HearingIs hearing r → LeavesHeard k link hearing (hear_as k link r)
-    by (Err fault) none = record { rests = rests-itself k; timely = refl; bounds = λ r new b same. subst (λ (x : AllReasons). AllZip HasBounds (state_now k).links x.links) (sym same) b }
-    by (Ok h) some = subst (λ (o : Option Hearing). LeavesHeard k link o (hear_as k link (Ok h))) (sym some) (by_test h (accepts (state_now k) (entries.Heard link h)) (can_enter k))
+    by : (x : Result Hearing HearFault) → fault_as why_not x ≡ read → LeavesHeard k link read (hear_as k link x).1
+    by (Err fault) same = stays
+    by (Ok h) same = by_test h same (accepts (state_now k) (entries.Heard link h)) (can_enter k)
 
 -- lower bounds change nothing that is asked
-pub lowered-same : (heard : Heard) (link t : ℕ) (hearing : Option Hearing) (r new : AllReasons) → Lowers heard link t hearing r new → (new.sessions ≡ r.sessions) × (askings_of new ≡ askings_of r)
-lowered-same (Ignored why) link t hearing r new same = (ap (λ (x : AllReasons). x.sessions) same, ap (λ (x : AllReasons). askings_of x) same)
-lowered-same Entered link t None r new same = (ap (λ (x : AllReasons). x.sessions) same, ap (λ (x : AllReasons). askings_of x) same)
-lowered-same Entered link t (Some hearing) r new lowers = (lowers.sessions, lowers.askings)
+pub lowered-same : (link t : ℕ) (read : Result Hearing Why) (r new : AllReasons) → Lowers link t read r new → (new.sessions ≡ r.sessions) × (askings_of new ≡ askings_of r)
+lowered-same link t (Err why) r new same = (ap (λ (x : AllReasons). x.sessions) same, ap (λ (x : AllReasons). askings_of x) same)
+lowered-same link t (Ok hearing) r new lowers = (lowers.sessions, lowers.askings)

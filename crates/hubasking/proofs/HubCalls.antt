@@ -4,8 +4,8 @@
 --     asked-behind, asked-alike      what is asked then, as it is kept; as of the plain hub
 --     kept-same, seen-same      where nothing changed
 --     ended-alike      behind a call that forgets no entry
---     can-follow-heard, asked-heard      behind a hearing
-use Rattle.std.proofs.Common.{◌≡◌, ℕ, ◌≤◌, List, Option, Result, Ok, Err, refl, sym, ap, subst, ◌∙◌, None}
+--     can-follow-heard, asked-heard, kept-lowered      behind a hearing; where it couldn't be entered
+use Rattle.std.proofs.Common.{◌≡◌, ℕ, ◌≤◌, List, Result, Ok, Err, refl, sym, ap, subst, ◌∙◌, None}
 use Rattle.std.specs.Prelude.{IfOk, OnErr}
 use Rattle.std.specs.List.{AllZip}
 use Rattle.push_base.specs.Limits.{max_moment}
@@ -13,17 +13,19 @@ use Rattle.rrset.specs.declared.record.Hearing.{Hearing}
 use Rattle.linkreasons.specs.AllReasons.{AllReasons, askings_of}
 use Rattle.pushserver.specs.Calls.{HubCall, called}
 use Rattle.pushserver.specs.Hubs.{now, state_now}
-use Rattle.pushserver.specs.declared.given.Heard.{Heard}
+use Rattle.pushserver.specs.declared.given.Why.{Why}
 use Rattle.pushserver.specs.PlainHubs.{Hub}
 use Rattle.pushserver.specs.KeptHubs.{KeptHub, Forgets, StandsFor, forgetting}
 use Rattle.pushserver.proofs.ForgottenEntries.{forgets-same}
 use Rattle.hubasking.specs.AskingHubs.{AskingHub}
 use Rattle.hubasking.specs.LinkAskings.{Askings, asking_after, behind, kept_questions, plain_questions}
 use Rattle.hubasking.specs.KeptReasons.{AreKept, CanFollow, HasBounds, Lowers, StillAsks, followed, session_reasons}
-use Rattle.hubasking.proofs.Calls.{Leaves, LeavesHeard, leaves-forgetting, lowered-same, matched}
+use Rattle.hubasking.proofs.Calls.{Leaves, LeavesHeard, bounds-lowered, leaves-forgetting, lowered-same, matched}
+use Rattle.hubasking.specs.Following.{AreStill, doubts_in}
 use Rattle.hubasking.proofs.Leading.{Sessions}
 use Rattle.hubasking.proofs.Resting.{can-follow, still-ask}
 use Rattle.hubasking.proofs.Standing.{asks-alike}
+use Rattle.hubasking.proofs.StillRows.{kept-still, match-still}
 
 abbrev pub asking_hub : KeptHub → AllReasons → AskingHub
 asking_hub hub reasons = record { hub = hub; askings = askings_of reasons }
@@ -78,19 +80,30 @@ pub ended-alike : (call : HubCall) (k later : KeptHub) (r : AllReasons) (v : Ask
 ended-alike call k later r v new seen asked is stands = asked-alike call k later r v new seen asked (forgets-same (called call k) later is) stands
 
 -- links can follow behind a hearing
-pub can-follow-heard : (k later : KeptHub) (r new : AllReasons) (link t : ℕ) (hearing : Option Hearing) (heard : Heard) (answer : Heard × KeptHub) (plain : Hub) → AreKept k r → Forgets answer.1 later → LeavesHeard k link hearing answer → heard ≡ answer.0 → t ≡ now k → StandsFor later plain
-    → Lowers heard link t hearing r new → CanFollow later new
-can-follow-heard k later r new link t hearing heard answer plain kept forgets leaves heard_is t_is stands lowers = record {
+pub can-follow-heard : (k later : KeptHub) (r new : AllReasons) (link t : ℕ) (read : Result Hearing Why) (behind_call : KeptHub) (plain : Hub) → AreKept k r → Forgets behind_call later → LeavesHeard k link read behind_call → t ≡ now k → StandsFor later plain
+    → Lowers link t read r new → CanFollow later new
+can-follow-heard k later r new link t read behind_call plain kept forgets leaves t_is stands lowers = record {
   plain = plain;
   stands = stands;
   timely = subst (λ (h : KeptHub). now h ≤ max_moment) (sym forgets.is) (subst (λ (n : ℕ). n ≤ max_moment) (sym leaves.timely) kept.timely);
-  sessions = subst (λ (s : Sessions). AllZip (StillAsks later) s later.sessions) (sym ((lowered-same heard link t hearing r new lowers).0 ∙ kept.sessions))
-      (subst (λ (h : KeptHub). AllZip (StillAsks h) (session_reasons (state_now k) k.sessions) h.sessions) (sym forgets.is) (still-ask (forgetting forgets.count answer.1) (state_now k) leaves.rests.homes k.sessions answer.1.sessions leaves.rests.sessions));
+  sessions = subst (λ (s : Sessions). AllZip (StillAsks later) s later.sessions) (sym ((lowered-same link t read r new lowers).0 ∙ kept.sessions))
+      (subst (λ (h : KeptHub). AllZip (StillAsks h) (session_reasons (state_now k) k.sessions) h.sessions) (sym forgets.is) (still-ask (forgetting forgets.count behind_call) (state_now k) leaves.rests.homes k.sessions behind_call.sessions leaves.rests.sessions));
   links = subst (λ (h : KeptHub). AllZip HasBounds (state_now h).links new.links) (sym forgets.is)
-      (leaves.bounds r new (matched (state_now k).links r.links kept.links) (subst (λ (w : Heard × ℕ). Lowers w.0 link w.1 hearing r new) (λ i. (heard_is i, t_is i)) lowers));
+      (leaves.bounds r new (matched (state_now k).links r.links kept.links) (subst (λ (n : ℕ). Lowers link n read r new) t_is lowers));
 }
 
 -- what is asked then
-pub asked-heard : (behind_call later : KeptHub) (r lowered : AllReasons) (heard : Heard) (link t : ℕ) (hearing : Option Hearing) (new : Askings) → Lowers heard link t hearing r lowered → Forgets behind_call later → new ≡ followed later (askings_of lowered)
+pub asked-heard : (behind_call later : KeptHub) (r lowered : AllReasons) (link t : ℕ) (read : Result Hearing Why) (new : Askings) → Lowers link t read r lowered → Forgets behind_call later → new ≡ followed later (askings_of lowered)
     → followed later (askings_of lowered) ≡ behind kept_questions None later (askings_of lowered) → new ≡ behind kept_questions None behind_call (askings_of r)
-asked-heard behind_call later r lowered heard link t hearing new lowers forgets first second = asked-behind behind_call later (askings_of lowered) new forgets first second ∙ ap (λ (a : Askings). behind kept_questions None behind_call a) (lowered-same heard link t hearing r lowered lowers).1
+asked-heard behind_call later r lowered link t read new lowers forgets first second = asked-behind behind_call later (askings_of lowered) new forgets first second ∙ ap (λ (a : Askings). behind kept_questions None behind_call a) (lowered-same link t read r lowered lowers).1
+
+-- where nothing was entered for want of memory
+pub kept-lowered : (k later : KeptHub) (r new : AllReasons) (link t : ℕ) (read : Result Hearing Why) → later ≡ k → Lowers link t read r new → AreKept k r → AreKept later new
+kept-lowered k later r new link t read same lowers kept = kept-same k later new same (record {
+  plain = kept.plain;
+  stands = kept.stands;
+  timely = kept.timely;
+  sessions = (lowered-same link t read r new lowers).0 ∙ kept.sessions;
+  links = match-still (state_now k).links new.links (bounds-lowered (state_now k).links link t read r new lowers (matched (state_now k).links r.links kept.links))
+      (subst (λ (asks : Askings). AreStill (state_now k).links (doubts_in asks)) (sym (lowered-same link t read r new lowers).1) (kept-still (state_now k).links r.links kept.links));
+})

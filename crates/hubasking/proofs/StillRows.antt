@@ -4,20 +4,31 @@
 --     still-beside, beside-changed, beside-here, beside-past, beside-to      all but those of one link
 --     match-still      so links match
 --     pass-reconfirmed      where a row is reconfirmed
-use Rattle.std.proofs.Common.{◌≡◌, ℕ, zero, suc, ◌+◌, ◌≤◌, Bool, true, false, cond, not, List, [], ◌∷◌, ◌++◌, length, map, filter, Option, Some, None, refl, sym, ap, subst, ◌∙◌, arith}
-use Rattle.std.specs.Prelude.{slice_get, ◌==◌}
-use Rattle.std.specs.List.{AllZip, AllByRecursion}
+--     pass-unnamed, pass-hearing      where a hearing says nothing of their names
+use Rattle.std.proofs.Common.{◌≡◌, ℕ, zero, suc, ◌+◌, ◌≤◌, Bool, true, false, cond, not, ◌&&◌, ◌||◌, List, [], ◌∷◌, ◌++◌, length, map, filter, Option, Some, None, refl, sym, ap, subst, ◌∙◌, arith}
+use Rattle.std.specs.Prelude.{bytes_eq, fold, nat_lt, slice_get, ◌==◌}
+use Rattle.std.specs.List.{AllZip, AllByRecursion, list_any}
 use Rattle.std.specs.Ordering.{eq_by_cmp}
+use Rattle.std.specs.FinMap.{put}
+use Rattle.std.specs.FinMap.Entries.{find-put}
+use Rattle.std.proofs.lemmas.Slice.Eq.{bytes_eq-Decides}
 use Rattle.push_base.specs.Cases.{changed_at}
 use Rattle.rrset.specs.KeyedRows.{row_at}
-use Rattle.rrset.specs.Records.{key_cmp, same_key}
+use Rattle.dnsname.specs.Names.{Labels, lower, octets, same_name}
+use Rattle.rrset.proofs.KeyOrder.{key_cmp_total, key_cmp-IsAntisymmetric}
+use Rattle.rrset.proofs.LowerNames.{lower-twice}
+use Rattle.rrset.proofs.Sets.{is_eq-Equal}
+use Rattle.rrset.specs.Records.{key_cmp, key_of, same_key}
+use Rattle.rrset.specs.declared.record.HeardRr.{HeardRr}
 use Rattle.rrset.specs.declared.record.Key.{Key}
 use Rattle.rrset.specs.declared.record.Question.{Question}
 use Rattle.linkcache.specs.Links.{LinkState}
-use Rattle.linkcache.specs.Rows.{LinkRows, ending_by, reconfirmation, reconfirmed}
+use Rattle.linkcache.specs.Rows.{LinkRows, ending_by, flushed_by, has_key, heard, heard_at, is_of_set, put_heard, reconfirmation, reconfirmed, row_has_room, second, ttl_of, usable_of}
+use Rattle.linkcache.specs.declared.rules.LinkRules.{LinkRules}
 use Rattle.linkcache.specs.declared.row.HeardRow.{HeardRow}
 use Rattle.linkask.specs.Reasons.{LinkAsking, Reconfirmed, still_reconfirmed, was_heard_at}
 use Rattle.linkreasons.specs.AllReasons.{AllReasons, ReasonsOfLink, asking_of, only_from, still_doubted, with_wanted}
+use Rattle.linkreasons.specs.Changing.{names_any, names_at, names_owner}
 use Rattle.hubasking.specs.Following.{AreStill, StillBeside, StillTo, doubts_in}
 use Rattle.hubasking.specs.KeptReasons.{HasBounds, MatchesLink}
 use Rattle.hubasking.proofs.Leading.{Sessions, still-twice}
@@ -171,6 +182,76 @@ pass-links place f step [] (d ∷ ds) pass = absurd pass
 pass-links place f step (l ∷ ls) [] pass = absurd pass
 pass-links zero f step (l ∷ ls) (d ∷ ds) pass = (step l d pass.0, pass.1)
 pass-links (suc place) f step (l ∷ ls) (d ∷ ds) pass = (pass.0, pass-links place f step ls ds pass.1)
+
+-- ---- a hearing that says nothing of a name
+
+or-first : (a b : Bool) → (a || b) ≡ false → a ≡ false
+or-first true b e = absurd cc
+or-first false b e = refl
+
+or-second : (a b : Bool) → (a || b) ≡ false → b ≡ false
+or-second true b e = absurd cc
+or-second false b e = e
+
+named-itself : (owner : Labels) → same_name (lower owner) owner ≡ true
+named-itself owner = ap (λ (low : Labels). bytes_eq (octets low) (octets (lower owner))) (lower-twice owner) ∙ (bytes_eq-Decides (octets (lower owner)) (octets (lower owner))).1 refl
+
+other-key : (key : Key) (h : HeardRr) → same_name key.owner h.rr.owner ≡ false → eq_by_cmp key_cmp key (key_of h.rr) ≡ false
+other-key key h other = by (eq_by_cmp key_cmp key (key_of h.rr)) refl
+  where
+    by : (b : Bool) → eq_by_cmp key_cmp key (key_of h.rr) ≡ b → b ≡ false
+    by false is = refl
+    by true is =
+        let same : key ≡ key_of h.rr = key_cmp-IsAntisymmetric key (key_of h.rr) (is_eq-Equal (key_cmp key (key_of h.rr)) is) in
+        let wrong : true ≡ false = sym (named-itself h.rr.owner) ∙ ap (λ (k : Key). same_name k.owner h.rr.owner) (sym same) ∙ other in absurd cc
+
+flushed-alike : (moment now : ℕ) (key : Key) (hs : List HeardRr) (rows : LinkRows) → was_heard_at moment (row_at key (fold (flushed_by now) rows hs)) ≡ was_heard_at moment (row_at key rows)
+flushed-alike moment now key [] rows = refl
+flushed-alike moment now key (h ∷ hs) rows =
+    flushed-alike moment now key hs (flushed_by now rows h) ∙ heard-ending moment key (λ (row : Key × HeardRow). is_of_set h.rr row && nat_lt (row.1.heard + second) now) (now + second) rows
+
+put-alike : (moment now : ℕ) (rules : LinkRules) (key : Key) (hs : List HeardRr) (rows : LinkRows) → names_owner key.owner hs ≡ false → was_heard_at moment (row_at key (fold (put_heard rules now 0) rows hs)) ≡ was_heard_at moment (row_at key rows)
+put-alike moment now rules key [] rows none = refl
+put-alike moment now rules key (h ∷ hs) rows none =
+    put-alike moment now rules key hs (put_heard rules now 0 rows h) (or-second (same_name key.owner h.rr.owner) (names_owner key.owner hs) none)
+    ∙ by (ttl_of h == 0) (has_key (key_of h.rr) rows || row_has_room rules 0 rows h.rr)
+  where
+    by : (gone room : Bool) → was_heard_at moment (row_at key (cond gone (map (λ (row : Key × HeardRow). cond (same_key (key_of h.rr) row.0) (ending_by (now + second) row) row) rows) (cond room (put key_cmp (key_of h.rr) (heard_at now h) rows) rows))) ≡ was_heard_at moment (row_at key rows)
+    by true room = heard-ending moment key (λ (row : Key × HeardRow). same_key (key_of h.rr) row.0) (now + second) rows
+    by false true =
+        ap (was_heard_at moment)
+        (find-put key_cmp key_cmp_total key (key_of h.rr) (heard_at now h) rows
+        ∙ ap (λ (b : Bool). cond b (Some (heard_at now h)) (row_at key rows)) (other-key key h (or-first (same_name key.owner h.rr.owner) (names_owner key.owner hs) none)))
+    by false false = refl
+
+filter-none : {X : Type 0} (test keep : X → Bool) (xs : List X) → list_any test xs ≡ false → list_any test (filter keep xs) ≡ false
+filter-none test keep [] none = refl
+filter-none {X} test keep (x ∷ xs) none = by (keep x) (filter-none test keep xs (or-second (test x) (list_any test xs) none))
+  where
+    by : (b : Bool) → list_any test (filter keep xs) ≡ false → list_any test (cond b (x ∷ filter keep xs) (filter keep xs)) ≡ false
+    by true rest = ap (λ (b : Bool). b || list_any test (filter keep xs)) (or-first (test x) (list_any test xs) none) ∙ rest
+    by false rest = rest
+
+heard-alike : (moment now : ℕ) (rules : LinkRules) (key : Key) (hearing : List HeardRr) (rows : LinkRows) → names_owner key.owner hearing ≡ false → was_heard_at moment (row_at key (heard rules rows now hearing)) ≡ was_heard_at moment (row_at key rows)
+heard-alike moment now rules key hearing rows none =
+    flushed-alike moment now key (filter (λ (h : HeardRr). h.flush) (usable_of rules hearing)) (fold (put_heard rules now 0) rows (usable_of rules hearing))
+    ∙ put-alike moment now rules key (usable_of rules hearing) rows (filter-none (λ (h : HeardRr). same_name key.owner h.rr.owner) _ hearing none)
+
+pub pass-unnamed : (rules : LinkRules) (rows : LinkRows) (now : ℕ) (hearing : List HeardRr) (doubts : Reconfirmed) → names_any doubts hearing ≡ false → RowsPass rows doubts → RowsPass (heard rules rows now hearing) doubts
+pass-unnamed rules rows now hearing [] none pass = tt
+pass-unnamed rules rows now hearing (r ∷ rs) none pass = (
+  heard-alike r.1 now rules r.0 hearing rows (or-first (names_owner r.0.owner hearing) (names_any rs hearing) none) ∙ pass.0,
+  pass-unnamed rules rows now hearing rs (or-second (names_owner r.0.owner hearing) (names_any rs hearing) none) pass.1,
+)
+
+-- the link at a place hears nothing of a name of its rows
+pub pass-hearing : (place : ℕ) (f : LinkState → LinkState) (now : ℕ) (hearing : List HeardRr) → ((l : LinkState) → (f l).rows ≡ heard l.rules l.rows now hearing) → (ls : List LinkState) (rs : List ReasonsOfLink) → names_at (slice_get rs place) hearing ≡ false
+    → Pass ls (doubts_in (map asking_of rs)) → Pass (changed_at place f ls) (doubts_in (map asking_of rs))
+pass-hearing place f now hearing is [] [] none pass = tt
+pass-hearing place f now hearing is [] (r ∷ rs) none pass = absurd pass
+pass-hearing place f now hearing is (l ∷ ls) [] none pass = absurd pass
+pass-hearing zero f now hearing is (l ∷ ls) (r ∷ rs) none pass = (subst (λ (rows : LinkRows). RowsPass rows r.reconfirmed) (sym (is l)) (pass-unnamed l.rules l.rows now hearing r.reconfirmed none pass.0), pass.1)
+pass-hearing (suc place) f now hearing is (l ∷ ls) (r ∷ rs) none pass = (pass.0, pass-hearing place f now hearing is ls rs none pass.1)
 
 -- ---- rows come and go
 

@@ -7,7 +7,7 @@ use Rattle.std.specs.Prelude.{fold, slice_get, nat_le, nat_lt}
 use Rattle.std.specs.List.{AllZip, AllByRecursion}
 use Rattle.std.proofs.lemmas.Bool.Decides.{nat_tests}
 use Rattle.std.proofs.lemmas.List.{length-map}
-use Rattle.push_base.specs.Cases.{changed_at}
+use Rattle.push_base.specs.Cases.{changed_at, fault_as}
 use Rattle.rrset.specs.declared.record.Hearing.{Hearing}
 use Rattle.rrset.specs.declared.record.Key.{Key}
 use Rattle.dnswire.specs.Reading.{hearing_of}
@@ -21,12 +21,11 @@ use Rattle.linkreasons.specs.AllReasons.{AllReasons, asking_of, askings_of, only
 use Rattle.linkreasons.specs.Laws.{FewerThenFewer}
 use Rattle.history.specs.States.{State, accepts, after, link_after, link_at_moment, verdict}
 use Rattle.history.specs.declared.entry.Entry.TheVariants as entries
-use Rattle.pushserver.specs.Hubs.{can_enter, disconnect, hear, link_gone, moment, state_now, update}
+use Rattle.pushserver.specs.Hubs.{can_enter, disconnect, hear, link_gone, moment, state_now, update, why_not}
 use Rattle.pushserver.specs.KeptHubs.{KeptHub, Forgets}
-use Rattle.pushserver.specs.declared.given.Heard.{Heard}
-use Rattle.pushserver.specs.declared.given.Heard.TheVariants.{Entered}
+use Rattle.pushserver.specs.declared.given.Why.{Why}
 use Rattle.pushserver.proofs.hub_steps.Cases.{enters_going, enters_hearing, enters_update, hear_as, moment_as, update_as}
-use Rattle.hubasking.specs.Following.{AreStill, EndsBut, LeadFrom, RefreshesFound, StaysAt, StillBeside, StillBut, doubts_in}
+use Rattle.hubasking.specs.Following.{AreStill, EndsBut, HearsBut, LeadFrom, RefreshesFound, StaysAt, StillBeside, StillBut, doubts_in}
 use Rattle.hubasking.specs.KeptReasons.{AreKept, HasBounds, Lowers, MatchesLink}
 use Rattle.hubasking.specs.declared.following.Touched.{Touched}
 use Rattle.hubasking.specs.declared.following.Touched.TheVariants.{Nothing, Link, Links}
@@ -35,7 +34,7 @@ use Rattle.hubasking.proofs.Clearing.{bounds-length}
 use Rattle.hubasking.proofs.Ending.{EndsWith}
 use Rattle.hubasking.proofs.Leading.{Sessions, lead-itself}
 use Rattle.hubasking.proofs.Refreshing.{refreshed-next}
-use Rattle.hubasking.proofs.StillRows.{beside-changed, beside-here, beside-past, beside-to, doubts-at, doubts-only, kept-still, match-still, still-beside}
+use Rattle.hubasking.proofs.StillRows.{beside-changed, beside-here, beside-past, beside-to, doubts-at, doubts-only, from-pass, kept-still, match-still, pass-hearing, still-beside, to-pass}
 
 -- ---- behind calls
 
@@ -62,24 +61,45 @@ end-still k later number r new kept is ends =
     subst (λ (h : KeptHub). AreStill (state_now h).links (doubts_in (askings_of new))) (sym is)
     (subst (λ (ds : List Reconfirmed). AreStill (state_now k).links ds) (sym (ap doubts_in ends.askings ∙ doubts-only 0 new.sessions (askings_of r))) (kept-still (state_now k).links r.links kept.links))
 
--- a hearing changes its own link
-heard-beside : (k : KeptHub) (link : ℕ) (datagram : List ℕ) (ds : List Reconfirmed) → AreStill (state_now k).links ds → StillBeside link (state_now (hear k link datagram).1).links ds
-heard-beside k link datagram ds still = by (hearing_of datagram)
-  where
-    by_test : (h : Hearing) (a b : Bool) → StillBeside link (state_now (enters_hearing k link h a b).1).links ds
-    by_test h true true = beside-changed link (link_after (entries.Heard link h) (state_now k).now) (state_now k).links ds still
-    by_test h true false = still-beside link (state_now k).links ds still
-    by_test h false b = still-beside link (state_now k).links ds still
+-- a hearing changes its own link, and nothing that was reconfirmed where it says nothing of it
+module _ (k : KeptHub) (link : ℕ) (r : AllReasons) (kept : AreKept k r) where
+  abbrev before : List Reconfirmed
+  before = doubts_in (askings_of r)
 
-    by : (r : Result Hearing HearFault) → StillBeside link (state_now (hear_as k link r).1).links ds
-    by (Err fault) = still-beside link (state_now k).links ds still
-    by (Ok h) = by_test h (accepts (state_now k) (entries.Heard link h)) (can_enter k)
+  before-still : AreStill (state_now k).links before
+  before-still = kept-still (state_now k).links r.links kept.links
 
-pub hear-still : (k later : KeptHub) (r new : AllReasons) (link t : ℕ) (datagram : List ℕ) (hearing : Option Hearing) (heard : Heard) → AreKept k r → Forgets (hear k link datagram).1 later → Lowers heard link t hearing r new → StillBeside link (state_now later).links (doubts_in (askings_of new))
-hear-still k later r new link t datagram hearing heard kept forgets lowers =
-    subst (λ (h : KeptHub). StillBeside link (state_now h).links (doubts_in (askings_of new))) (sym forgets.is)
-    (subst (λ (asks : List LinkAsking). StillBeside link (state_now (hear k link datagram).1).links (doubts_in asks)) (sym (lowered-same heard link t hearing r new lowers).1)
-    (heard-beside k link datagram (doubts_in (askings_of r)) (kept-still (state_now k).links r.links kept.links)))
+  beside : (x : Result Hearing HearFault) → StillBeside link (state_now (hear_as k link x).1).links before
+  beside (Err fault) = still-beside link (state_now k).links before before-still
+  beside (Ok h) = by (accepts (state_now k) (entries.Heard link h)) (can_enter k)
+    where
+      by : (a b : Bool) → StillBeside link (state_now (enters_hearing k link h a b).1).links before
+      by true true = beside-changed link (link_after (entries.Heard link h) (state_now k).now) (state_now k).links before before-still
+      by true false = still-beside link (state_now k).links before before-still
+      by false b = still-beside link (state_now k).links before before-still
+
+  unnamed : (x : Result Hearing HearFault) → HearsBut Nothing link (fault_as why_not x) r → AreStill (state_now (hear_as k link x).1).links before
+  unnamed (Err fault) none = before-still
+  unnamed (Ok h) none = by (accepts (state_now k) (entries.Heard link h)) (can_enter k)
+    where
+      by : (a b : Bool) → AreStill (state_now (enters_hearing k link h a b).1).links before
+      by true true =
+          from-pass (changed_at link (link_after (entries.Heard link h) (state_now k).now) (state_now k).links) before
+          (pass-hearing link (link_after (entries.Heard link h) (state_now k).now) (state_now k).now h.rrs (λ l. refl) (state_now k).links r.links none (to-pass (state_now k).links before before-still))
+      by true false = before-still
+      by false b = before-still
+
+  touched-still : (datagram : List ℕ) (touched : Touched) → HearsBut touched link (fault_as why_not (hearing_of datagram)) r → StillBut touched (state_now (hear k link datagram).1).links before
+  touched-still datagram Nothing none = unnamed (hearing_of datagram) none
+  touched-still datagram (Link other) same = subst (λ (n : ℕ). StillBeside n (state_now (hear k link datagram).1).links before) (sym same) (beside (hearing_of datagram))
+  touched-still datagram Links all = absurd all
+
+pub hear-still : (k later : KeptHub) (r new : AllReasons) (link t : ℕ) (datagram : List ℕ) (read : Result Hearing Why) (touched : Touched) → AreKept k r → Forgets (hear k link datagram).1 later → fault_as why_not (hearing_of datagram) ≡ read
+    → HearsBut touched link read r → Lowers link t read r new → StillBut touched (state_now later).links (doubts_in (askings_of new))
+hear-still k later r new link t datagram read touched kept forgets is hears lowers =
+    subst (λ (h : KeptHub). StillBut touched (state_now h).links (doubts_in (askings_of new))) (sym forgets.is)
+    (subst (λ (asks : List LinkAsking). StillBut touched (state_now (hear k link datagram).1).links (doubts_in asks)) (sym (lowered-same link t read r new lowers).1)
+    (touched-still k link r kept datagram touched (subst (λ (x : Result Hearing Why). HearsBut touched link x r) (sym is) hears)))
 
 -- as one that goes does
 gone-beside : (k : KeptHub) (link : ℕ) (ds : List Reconfirmed) → AreStill (state_now k).links ds → StillBeside link (state_now (link_gone k link).1).links ds

@@ -4,19 +4,23 @@
 --     doubts_in askings      the rows of each link that were reconfirmed
 --     AreStill links doubts, StillBut touched links doubts      none of them was heard since; none but of links that a call touched
 --     EndsBut touched at links      of no link but those a row ends by a moment
+--     HearsBut touched link read reasons      of no link but those a hearing says something
 --     Rested later place sessions      the first sessions that ask nothing have no reasons
 --     ClearsAt later place old new      the session of a place has none where it asks nothing
 --     RefreshesAt hub link old new      rows of a link that were heard since, or went, aren't reconfirmed any more
-use Rattle.std.specs.Prelude.{◌≡◌, ◌⊎◌, ℕ, ◌+◌, zero, suc, true, List, [], ◌∷◌, map, Option, Some, None, slice_get}
+use Rattle.std.specs.Prelude.{◌≡◌, ◌⊎◌, ℕ, ◌+◌, zero, suc, true, false, List, [], ◌∷◌, map, Option, Some, None, Result, Ok, Err, slice_get}
 use Rattle.std.specs.List.{AllByRecursion, AllZip}
 use Rattle.push_base.specs.Cases.{changed_at}
+use Rattle.rrset.specs.declared.record.Hearing.{Hearing}
 use Rattle.linkcache.specs.Links.{LinkState}
 use Rattle.linkcache.specs.Rows.{at_moment}
 use Rattle.linkask.specs.Reasons.{LinkAsking, Reconfirmed, still_reconfirmed}
 use Rattle.linkreasons.specs.AllReasons.{AllReasons, KeepsBounds, askings_of, in_session, only_reasons, reasons_on, still_doubted, with_any_of}
+use Rattle.linkreasons.specs.Changing.{names_at}
 use Rattle.linkreasons.specs.declared.reason.Reason.{Reason}
 use Rattle.pushserver.specs.Hubs.{state_now}
 use Rattle.pushserver.specs.KeptHubs.{KeptHub}
+use Rattle.pushserver.specs.declared.given.Why.{Why}
 use Rattle.hubasking.specs.KeptReasons.{rests}
 use Rattle.hubasking.specs.declared.following.Touched.{Touched}
 use Rattle.hubasking.specs.declared.following.Touched.TheVariants.{Nothing, Link, Links}
@@ -65,6 +69,13 @@ abbrev pub EndsBut : Touched → ℕ → List LinkState → Type 0
 EndsBut Nothing at links = AllByRecursion (λ l. at_moment l.rows at ≡ l.rows) links
 EndsBut (Link link) at links = ⊥
 EndsBut Links at links = Unit {0}
+
+-- those of a link of which a hearing says something
+abbrev pub HearsBut : Touched → ℕ → Result Hearing Why → AllReasons → Type 0
+HearsBut Nothing link (Ok hearing) reasons = names_at (slice_get reasons.links link) hearing.rrs ≡ false
+HearsBut Nothing link (Err why) reasons = Unit {0}
+HearsBut (Link other) link read reasons = other ≡ link
+HearsBut Links link read reasons = ⊥
 
 -- ---- steps
 

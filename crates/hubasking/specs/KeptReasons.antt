@@ -3,14 +3,13 @@
 --     rests hub number, rests_in entry      the session of a number asks nothing; that in a place
 --     MatchesLink rows reasons, AreKept hub reasons      what always holds of a link; of all
 --     Follows state before later, CanFollow later reasons      where sessions ask as before or nothing any more; what may follow a call
---     Lowers heard link now hearing old new, HearingIs      bounds of a link that was heard; what is read of its datagram
+--     Lowers link now read old new      bounds of a link are lowered for what it may hear
 --     followed_from link sessions links askings      what is asked then
 use Rattle.std.specs.Prelude.{◌≡◌, ◌⊎◌, ◌≤◌, ℕ, ◌+◌, ◌==◌, Bool, true, false, List, [], ◌∷◌, map, flat_map, Option, Some, None, Result, Ok, Err, slice_get}
 use Rattle.std.specs.List.{AllZip}
 use Rattle.push_base.specs.Cases.{is_empty}
 use Rattle.push_base.specs.Limits.{max_moment}
 use Rattle.rrset.specs.declared.record.Hearing.{Hearing}
-use Rattle.dnswire.specs.declared.message.HearFault.{HearFault}
 use Rattle.rrset.specs.declared.record.Question.{Question}
 use Rattle.subscr.specs.Asked.{Asked}
 use Rattle.linkcache.specs.Links.{LinkState}
@@ -18,7 +17,7 @@ use Rattle.linkcache.specs.Rows.{LinkRows, heard}
 use Rattle.linkcache.specs.declared.rules.LinkRules.{LinkRules}
 use Rattle.linkask.specs.Bounds.{AreBounds}
 use Rattle.linkask.specs.Reasons.{LinkAsking, question_on, still_reconfirmed}
-use Rattle.linkreasons.specs.AllReasons.{AllReasons, ReasonsOfLink, AreBoundsAt, askings_of, reasons_on, with_any_of}
+use Rattle.linkreasons.specs.AllReasons.{AllReasons, ReasonsOfLink, AreBoundsAt, KeepsBounds, askings_of, reasons_on, with_any_of}
 use Rattle.linkreasons.specs.declared.reason.Reason.{Reason}
 use Rattle.history.specs.States.{State, home_of}
 use Rattle.history.specs.declared.entry.Home.{Home}
@@ -28,8 +27,7 @@ use Rattle.livesessions.specs.NumberedSessions.{Numbered}
 use Rattle.pushserver.specs.Hubs.{now, session_of, state_now}
 use Rattle.pushserver.specs.KeptHubs.{KeptHub, StandsFor}
 use Rattle.pushserver.specs.PlainHubs.{Hub}
-use Rattle.pushserver.specs.declared.given.Heard.{Heard}
-use Rattle.pushserver.specs.declared.given.Heard.TheVariants.{Entered, Ignored}
+use Rattle.pushserver.specs.declared.given.Why.{Why}
 
 -- ---- reasons of sessions
 
@@ -96,19 +94,15 @@ followed_from link sessions _ _ = []
 abbrev pub followed : KeptHub → List LinkAsking → List LinkAsking
 followed later askings = followed_from 0 (session_reasons (state_now later) later.sessions) (state_now later).links askings
 
--- a link was heard, and its bounds are lowered
+-- bounds of a link are lowered for what it may hear
 pub record LowersFor (link now : ℕ) (hearing : Hearing) (old new : AllReasons) : Type 0 where
   pub sessions : new.sessions ≡ old.sessions
   pub askings : askings_of new ≡ askings_of old
   pub bounds : (rules : LinkRules) (rows : LinkRows) → AreBoundsAt rows link old → AreBoundsAt (heard rules rows now hearing.rrs) link new
+  pub keeps : KeepsBounds old new
   pub others : (other : ℕ) → (other == link) ≡ false → slice_get new.links other ≡ slice_get old.links other
 
--- for what was entered
-abbrev pub Lowers : Heard → ℕ → ℕ → Option Hearing → AllReasons → AllReasons → Type 0
-Lowers Entered link now (Some hearing) old new = LowersFor link now hearing old new
-Lowers _ link now hearing old new = new ≡ old
-
--- the hearing that a datagram is, if it is one
-abbrev pub HearingIs : Option Hearing → Result Hearing HearFault → Type 0
-HearingIs found (Err fault) = found ≡ None
-HearingIs found (Ok hearing) = found ≡ Some hearing
+-- where it is a hearing
+abbrev pub Lowers : ℕ → ℕ → Result Hearing Why → AllReasons → AllReasons → Type 0
+Lowers link now (Ok hearing) old new = LowersFor link now hearing old new
+Lowers link now (Err why) old new = new ≡ old

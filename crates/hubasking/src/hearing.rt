@@ -1,47 +1,42 @@
 //! What a datagram of a link lets it be asked for anew.
 
-ghost use Rattle.std.specs.Prelude.{◌≤◌, IfOk};
+ghost use Rattle.std.specs.Prelude.{◌≤◌};
 ghost use Rattle.push_base.specs.Limits.{max_moment};
-ghost use Rattle.dnswire.specs.Reading.{hearing_of};
-ghost use Rattle.hubasking.specs.KeptReasons.{HearingIs, Lowers};
+ghost use Rattle.hubasking.specs.Following.{HearsBut};
+ghost use Rattle.hubasking.specs.KeptReasons.{Lowers};
 
-use dnswire::{HearFault, read_hearing};
+use crate::following::Touched;
 use linkreasons::LinkReasons;
-use pushserver::{Heard, NoMemory};
+use pushserver::Why;
 use rrset::Hearing;
-use std::alloc::Global;
 
-/// The hearing that a datagram is, if it is one.
-pub(crate) fn hearing_in(alloc: Global, datagram: &[u8]) -> Result<Option<Hearing>, NoMemory>
-    ensures { IfOk result (λ found. HearingIs found (hearing_of datagram.now)) }
+/// Bounds of a link are lowered for what it may hear.
+pub(crate) fn lower(reasons: &mut LinkReasons, link: usize, now: u64, read: &Result<Hearing, Why>)
+    requires { now ≤ max_moment }
+    ensures { Lowers link now read.now reasons.old reasons.new }
 {
-    match read_hearing(alloc, datagram) {
-        Ok(hearing) => Ok(Some(hearing)),
-        Err(HearFault::NoMemory) => Err(NoMemory),
-        Err(HearFault::Long) => Ok(None),
-        Err(HearFault::Short) => Ok(None),
-        Err(HearFault::Query) => Ok(None),
-        Err(HearFault::Coded) => Ok(None),
-        Err(HearFault::Wire(_)) => Ok(None),
+    match read {
+        Ok(hearing) => reasons.heard(link, hearing.rrs.as_slice(), now),
+        Err(_) => {}
     }
 }
 
-/// Bounds of a link are lowered for what was entered.
-pub(crate) fn lower(
-    reasons: &mut LinkReasons,
-    heard: Heard,
+/// Which links a hearing touches: its own, where it says something of a row that was reconfirmed.
+pub(crate) fn touched_by_hearing(
+    reasons: &LinkReasons,
     link: usize,
-    now: u64,
-    hearing: &Option<Hearing>,
-)
-    requires { now ≤ max_moment }
-    ensures { Lowers heard link now hearing.now reasons.old reasons.new }
+    read: &Result<Hearing, Why>,
+) -> Touched
+    ensures { HearsBut result link read.now reasons.now }
 {
-    match heard {
-        Heard::Entered => match hearing {
-            Some(hearing) => reasons.heard(link, hearing.rrs.as_slice(), now),
-            None => {}
-        },
-        Heard::Ignored(_) => {}
+    match read {
+        Ok(hearing) => {
+            if reasons.is_named(link, hearing.rrs.as_slice()) {
+                Touched::Link(link)
+            } else {
+                Touched::Nothing
+            }
+        }
+        Err(_) => Touched::Nothing,
     }
 }

@@ -21,7 +21,7 @@ ghost use Rattle.hubasking.specs.LinkAskings.{ask, asking_after, kept_questions,
 use crate::asking::ask_link;
 use crate::following::{Touched, follow, touched_by};
 use crate::giving::{count_of, make_ready, settle, undo};
-use crate::hearing::{hearing_in, lower};
+use crate::hearing::{lower, touched_by_hearing};
 use crate::idle::session_at;
 use crate::seating::seated;
 use dnsname::Name;
@@ -31,7 +31,7 @@ use history::entry::Totals;
 use linkask::laws::bounds;
 use linkreasons::LinkReasons;
 use linkreasons::laws::reasons_are_followed;
-use pushserver::{ConnectFault, Given, Heard, HubFault, NoMemory};
+use pushserver::{ConnectFault, Given, Heard, HubFault, NoMemory, read_datagram};
 use std::marker::Model;
 
 /// One history of all homes, and the sessions, each told of what it asks for (RFC 8765), and what each link is asked for them
@@ -118,11 +118,12 @@ impl Hub {
         ensures asking { OnOk result (self.new.askings ≡ asking_after kept_questions (hears link datagram.now) self.old.hub self.old.askings) }
         ensures asks { OnOk result ((hub : Plain) → StandsFor self.old.hub hub → self.new.askings ≡ asking_after plain_questions (hears link datagram.now) hub self.old.askings) }
     {
-        let hearing = hearing_in(self.hub.homes().allocator(), datagram)?;
+        let read = read_datagram(self.hub.homes().allocator(), datagram)?;
+        let touched = touched_by_hearing(&self.reasons, link, &read);
         let now = self.hub.now();
-        let heard = self.hub.hear_uncounted(link, datagram)?;
-        lower(&mut self.reasons, heard, link, now, &hearing);
-        follow(&self.hub, &mut self.reasons, Touched::Link(link));
+        lower(&mut self.reasons, link, now, &read);
+        let heard = self.hub.hear_uncounted(link, datagram, read)?;
+        follow(&self.hub, &mut self.reasons, touched);
         Ok(heard)
     }
 

@@ -3,17 +3,18 @@
 --     asked-counted, asked-bounds, asked-others      what that leaves
 --     asks-there, asks-nowhere, asks-same      what is asked then
 --     changed-others, changed-bounds, changed-set, changed-past      the link at a place changes
+--     hears-bounds, lowers-keep      bounds of a link that is heard, and lowered ones
 --     new-counted      nothing is asked
-use Rattle.std.proofs.Common.{◌≡◌, ℕ, zero, suc, ◌+◌, ◌-◌, ◌<◌, ◌≤◌, Bool, true, false, List, [], ◌∷◌, ◌++◌, Result, Ok, Err, length, map, replicate, get_or, set, Option, Some, None, refl, sym, ap, subst, ◌∙◌, arith}
+use Rattle.std.proofs.Common.{◌≡◌, ℕ, zero, suc, ◌+◌, ◌-◌, ◌<◌, ◌≤◌, Bool, true, false, cond, not, ◌&&◌, List, [], ◌∷◌, ◌++◌, Result, Ok, Err, length, map, replicate, get_or, set, Option, Some, None, refl, sym, ap, subst, ◌∙◌, arith}
 use Rattle.std.proofs.lemmas.Bool.Decides.{nat_tests}
 use Rattle.std.proofs.lemmas.List.{append-nil, append_assoc}
-use Rattle.std.specs.Prelude.{IfOk, IfSome, OnErr, OnOk, slice_get, ◌==◌}
+use Rattle.std.specs.Prelude.{IfOk, IfSome, OnErr, OnOk, min, slice_get, ◌==◌}
 use Rattle.push_base.specs.Cases.{changed_at}
 use Rattle.rrset.specs.declared.record.HeardRr.{HeardRr}
-use Rattle.linkcache.specs.Rows.{LinkRows, heard}
+use Rattle.linkcache.specs.Rows.{LinkRows, heard, ttl_of}
 use Rattle.linkcache.specs.declared.rules.LinkRules.{LinkRules}
 use Rattle.linkask.specs.Asking.{Wanted, next}
-use Rattle.linkask.specs.Bounds.{AreBounds, wanted_in}
+use Rattle.linkask.specs.Bounds.{AreBounds, IsBound, Kept, all_heard, first_refresh, heard_again, is_asked_for, wanted_in}
 use Rattle.linkask.specs.Laws.{HearingKeepsBounds}
 use Rattle.linkask.specs.Reasons.{LinkAsking}
 use Rattle.linkreasons.specs.AllReasons.{ReasonsOfLink, asking_of, reasons_on}
@@ -184,6 +185,27 @@ pub hears-bounds : HearingKeepsBounds → (rules : LinkRules) (rows : LinkRows) 
     → IfSome (slice_get (changed_at link (heard_by now hearing) links) link) (λ l. AreBounds (heard rules rows now hearing) l.kept)
 hears-bounds keeps rules rows now hearing link links h =
     changed-bounds (heard_by now hearing) (λ l. AreBounds rows l.kept) (λ l. AreBounds (heard rules rows now hearing) l.kept) (λ l bounds. keeps rules rows now hearing l.kept bounds) link links h
+
+-- lowered bounds are bounds, too
+lower-keeps : (rows : LinkRows) (now : ℕ) (h : HeardRr) (kept : Kept) → AreBounds rows kept → AreBounds rows (heard_again now kept h)
+lower-keeps rows now h [] bounds = tt
+lower-keeps rows now h (e ∷ es) bounds = (by (is_asked_for e.0 h && not (ttl_of h == 0)), lower-keeps rows now h es bounds.1)
+  where
+    by : (b : Bool) → IsBound rows (e.0, record e.1 { due = cond b (min e.1.due (first_refresh now h)) e.1.due })
+    by true = let bound = bounds.0 in omega (arith, bound)
+    by false = bounds.0
+
+all-lower-keep : (rows : LinkRows) (now : ℕ) (hs : List HeardRr) (kept : Kept) → AreBounds rows kept → AreBounds rows (all_heard now hs kept)
+all-lower-keep rows now [] kept bounds = bounds
+all-lower-keep rows now (h ∷ hs) kept bounds = all-lower-keep rows now hs (heard_again now kept h) (lower-keeps rows now h kept bounds)
+
+pub lowers-keep : (rows : LinkRows) (now : ℕ) (hearing : List HeardRr) (link other : ℕ) (links : List ReasonsOfLink) → IfSome (slice_get links other) (λ l. AreBounds rows l.kept)
+    → IfSome (slice_get (changed_at link (heard_by now hearing) links) other) (λ l. AreBounds rows l.kept)
+lowers-keep rows now hearing link other [] h = h
+lowers-keep rows now hearing zero zero (l ∷ ls) h = all-lower-keep rows now hearing l.kept h
+lowers-keep rows now hearing zero (suc other) (l ∷ ls) h = h
+lowers-keep rows now hearing (suc link) zero (l ∷ ls) h = h
+lowers-keep rows now hearing (suc link) (suc other) (l ∷ ls) h = lowers-keep rows now hearing link other ls h
 
 -- ---- nothing is asked
 

@@ -6,10 +6,12 @@
 --     settled_last      the last row stands for all of its key, where there is one
 --     asked_on rows now link askings      what is sent for the first question of a link that is due, and what is asked then
 --     IsOneAsked rows link olds news      only what was asked of a link and the bounds change
+--     names_owner owner hearing, names_any doubts hearing, names_at link hearing      a hearing says something of a name; of that of a row that was reconfirmed; of one of a link
 --     is_there number sessions, have_reasons sessions      a session has this number; one has a reason
-use Rattle.std.specs.Prelude.{◌≡◌, ℕ, zero, suc, Bool, not, cond, List, [], ◌∷◌, ◌++◌, map, filter, flat_map, fold, Option, Some, None, slice_get, ◌==◌, if◌then◌else◌, ⊤}
+use Rattle.std.specs.Prelude.{◌≡◌, ℕ, zero, suc, Bool, false, not, cond, List, [], ◌∷◌, ◌++◌, map, filter, flat_map, fold, Option, Some, None, slice_get, ◌==◌, if◌then◌else◌, ⊤}
 use Rattle.std.specs.List.{list_any}
 use Rattle.push_base.specs.Cases.{changed_at, is_empty}
+use Rattle.dnsname.specs.Names.{Labels, same_name}
 use Rattle.rrset.specs.Records.{same_key}
 use Rattle.rrset.specs.KeyedRows.{row_at}
 use Rattle.rrset.specs.declared.record.HeardRr.{HeardRr}
@@ -116,3 +118,15 @@ is_there number sessions = list_any (λ e. e.0 == number) sessions
 
 abbrev pub have_reasons : List (ℕ × List Reason) → Bool
 have_reasons sessions = list_any (λ e. not (is_empty e.1)) sessions
+
+-- ---- names that a hearing says something of
+
+abbrev pub names_owner : Labels → List HeardRr → Bool
+names_owner owner hearing = list_any (λ h. same_name owner h.rr.owner) hearing
+
+abbrev pub names_any : Reconfirmed → List HeardRr → Bool
+names_any doubts hearing = list_any (λ r. names_owner r.0.owner hearing) doubts
+
+abbrev pub names_at : Option ReasonsOfLink → List HeardRr → Bool
+names_at None hearing = false
+names_at (Some l) hearing = names_any l.reconfirmed hearing

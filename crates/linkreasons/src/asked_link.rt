@@ -8,7 +8,7 @@ ghost use Rattle.rrset.specs.Records.{same_key};
 ghost use Rattle.linkask.specs.Asking.{next};
 ghost use Rattle.linkask.specs.Bounds.{AreBounds, all_reasons, wanted_in};
 ghost use Rattle.linkask.specs.Reasons.{still_reconfirmed};
-ghost use Rattle.linkreasons.specs.Changing.{begun_if_new, doubted, heard_by, is_over, one_unwanted, one_wanted, questions_of_rows, refreshed, settled, undoubted, unwanted_all};
+ghost use Rattle.linkreasons.specs.Changing.{begun_if_new, doubted, heard_by, is_over, names_any, one_unwanted, one_wanted, questions_of_rows, refreshed, settled, undoubted, unwanted_all};
 
 use crate::NoMemory;
 use crate::doubted_row::{DoubtedRow, is_among};
@@ -178,6 +178,13 @@ impl AskedLink {
     {
         drop_over(&mut self.asker, &self.rows, cache);
         keep_doubted(&mut self.rows, cache);
+    }
+
+    /// Whether a hearing says something of the name of a row that was reconfirmed.
+    pub(crate) fn is_named(&self, hearing: &[HeardRr]) -> bool
+        ensures { result ≡ names_any self.now.reconfirmed hearing.now }
+    {
+        self.rows.iter().any(|row| row.is_named(hearing))
     }
 
     /// Lowers the bounds of the questions that ask for what was heard.

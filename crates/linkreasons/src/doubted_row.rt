@@ -4,10 +4,11 @@ ghost use Rattle.std.specs.Prelude.{◌≡◌, IfOk};
 ghost use Rattle.rrset.specs.Records.{same_key};
 ghost use Rattle.linkask.specs.Reasons.{is_doubted, question_for, was_heard_at};
 ghost use Rattle.rrset.specs.KeyedRows.{row_at};
+ghost use Rattle.linkreasons.specs.Changing.{names_owner};
 
 use crate::NoMemory;
 use linkcache::Cache;
-use rrset::{Key, Question, classes, same_key};
+use rrset::{HeardRr, Key, Question, classes, same_key};
 use std::marker::Model;
 
 /// A row that was reconfirmed, with the moment at which it had been heard, and the question for it.
@@ -66,6 +67,15 @@ impl DoubtedRow {
         ensures { result ≡ same_key self.now.0 other.now.0 }
     {
         same_key(&self.key, &other.key)
+    }
+
+    /// Whether a hearing says something of its name.
+    pub(crate) fn is_named(&self, hearing: &[HeardRr]) -> bool
+        ensures { result ≡ names_owner self.now.0.owner hearing.now }
+    {
+        hearing
+            .iter()
+            .any(|heard| self.key.owner.same(&heard.rr.owner))
     }
 
     /// When it had been heard.

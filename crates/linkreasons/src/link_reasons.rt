@@ -6,7 +6,7 @@ ghost use Rattle.push_base.specs.Limits.{max_datagram, max_moment};
 ghost use Rattle.linkcache.specs.Rows.{LinkRows, heard};
 ghost use Rattle.linkcache.specs.declared.rules.LinkRules.{LinkRules};
 ghost use Rattle.linkreasons.specs.AllReasons.{AreBoundsAt, AreFollowed, KeepsBounds, askings_of, but_last, doubted_less, doubted_more, in_session, only_reasons, still_doubted, with_reason, with_those, with_wanted, without_session};
-ghost use Rattle.linkreasons.specs.Changing.{asked_on, have_reasons, is_there, settled_last};
+ghost use Rattle.linkreasons.specs.Changing.{asked_on, have_reasons, is_there, names_at, settled_last};
 ghost use Rattle.linkreasons.specs.Counting.{AreDistinct};
 
 use crate::NoMemory;
@@ -243,12 +243,23 @@ impl LinkReasons {
         refresh_on(&mut self.links, link, cache);
     }
 
-    /// Lowers the bounds of the questions of a link that ask for what it has heard.
+    /// Whether a hearing says something of the name of a row of a link that was reconfirmed.
+    pub fn is_named(&self, link: usize, hearing: &[HeardRr]) -> bool
+        ensures { result ≡ names_at (slice_get self.now.links link) hearing.now }
+    {
+        match self.links.get(link) {
+            Some(asked) => asked.is_named(hearing),
+            None => false,
+        }
+    }
+
+    /// Lowers the bounds of the questions of a link that ask for what it has heard, or may have.
     pub fn heard(&mut self, link: usize, hearing: &[HeardRr], now: u64)
         requires { now ≤ max_moment }
         ensures sessions { self.new.sessions ≡ self.old.sessions }
         ensures askings { askings_of self.new ≡ askings_of self.old }
         ensures bounds { (rules : LinkRules) (rows : LinkRows) → AreBoundsAt rows link self.old → AreBoundsAt (heard rules rows now hearing.now) link self.new }
+        ensures keeps { KeepsBounds self.old self.new }
         ensures others { (other : ℕ) → (other == link) ≡ false → slice_get self.new.links other ≡ slice_get self.old.links other }
     {
         laws::bounds();

@@ -113,10 +113,7 @@ fn find_hearing(alloc: Global, datagram: &[u8]) -> Result<Result<Hearing, Why>, 
 }
 
 /// What a datagram of a link says, or why it is ignored (RFC 6762, 18). It fits an empty journal.
-pub(crate) fn read_datagram(
-    alloc: Global,
-    datagram: &[u8],
-) -> Result<Result<Hearing, Why>, NoMemory>
+pub fn read_datagram(alloc: Global, datagram: &[u8]) -> Result<Result<Hearing, Why>, NoMemory>
     ensures read { IfOk result (λ read. fault_as why_not (hearing_of datagram.now) ≡ read) }
     ensures fits { IfOk result (λ read. IfOk read (λ hearing. (link : ℕ) → entry_size (entries.Heard link hearing) ≤ max_journal_octets)) }
 {

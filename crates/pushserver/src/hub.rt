@@ -1,13 +1,14 @@
 //! The server's core: one history, and the sessions that are told of it.
 
 ghost use Rattle.std.specs.Prelude.{◌≡◌, ◌≤◌, ◌<◌, ◌+◌, ◌++◌, None, Some, drop, length, true, IfOk, IsErrOf, OnErr, OnOk};
+ghost use Rattle.push_base.specs.Cases.{fault_as};
 ghost use Rattle.push_base.specs.Limits.{max_moment};
 ghost use Rattle.dnswire.specs.Reading.{hearing_of};
 ghost use Rattle.history.specs.Kept.{state_of};
 ghost use Rattle.history.specs.Plans.{IsStart};
 ghost use Rattle.pushserver.specs.Counting.{AddsGoing, AddsHearing, MayAddChange, MayAddMoment, octets_of};
 ghost use Rattle.pushserver.specs.Giving.{give};
-ghost use Rattle.pushserver.specs.Hubs.{can_enter, connect, disconnect, hear, link_gone, max_sessions, moment, stop, take_octets, taken_by, update};
+ghost use Rattle.pushserver.specs.Hubs.{can_enter, connect, disconnect, hear, link_gone, max_sessions, moment, stop, take_octets, taken_by, update, why_not};
 ghost use Rattle.pushserver.specs.Laws.{MayWantMemory};
 ghost use Rattle.pushserver.specs.Observing.{SaysWhy};
 ghost use Rattle.pushserver.specs.KeptHubs.{Forgets, StandsFor, new_kept};
@@ -15,13 +16,15 @@ ghost use Rattle.pushserver.specs.PlainHubs.{Hub as Plain, new_hub};
 ghost use Rattle.pushserver.specs.Watched.{allowed, gone_changes, hear_changes, update_changes};
 ghost use Rattle.push_base.specs.Counted.{CountsUpTo};
 
+use crate::decode::read_datagram;
 use crate::fault::{ConnectFault, HubFault};
-use crate::given::{Given, Heard};
+use crate::given::{Given, Heard, Why};
 use crate::hub_state::HubState;
 use dsosession::session::Timers;
 use history::Homes;
 use push_base::Steps;
 use pushsession::NoMemory;
+use rrset::Hearing;
 use std::marker::{Brand, Model};
 use std::sync::ledger::{Blank, Ledger};
 
@@ -123,11 +126,38 @@ impl Hub {
         ensures counts { AddsHearing result self.old self.new }
         ensures steps { CountsUpTo (allowed self.old (hear_changes self.old link datagram.now)) steps.old steps.new }
     {
-        Ok(self.keeping.hear(link, datagram, steps)?)
+        let read = read_datagram(self.keeping.allocator(), datagram)?;
+        self.hear_read(link, datagram, read, steps)
+    }
+
+    /// The same of a datagram that was read.
+    fn hear_read<L: Ledger>(
+        &mut self,
+        link: usize,
+        datagram: &[u8],
+        read: Result<Hearing, Why>,
+        steps: &mut Steps<L>,
+    ) -> Result<Heard, HubFault>
+        requires read { fault_as why_not (hearing_of datagram.now) ≡ read }
+        ensures ok { IfOk result (λ heard. (hub : Plain) → StandsFor self.old hub → (heard ≡ (hear hub link datagram.now).0) × StandsFor self.new (hear hub link datagram.now).1) }
+        ensures err { OnErr result ((hub : Plain) → StandsFor self.old hub → StandsFor self.new hub) }
+        ensures kept { IfOk result (λ heard. (heard ≡ (hear self.old link datagram.now).0) × Forgets (hear self.old link datagram.now).1 self.new) }
+        ensures same { OnErr result (self.new ≡ self.old) }
+        ensures unread { IfOk result (λ heard. SaysWhy heard (hearing_of datagram.now)) }
+        ensures counts { AddsHearing result self.old self.new }
+        ensures steps { CountsUpTo (allowed self.old (hear_changes self.old link datagram.now)) steps.old steps.new }
+    {
+        Ok(self.keeping.hear(link, datagram, read, steps)?)
     }
 
     /// The same where nobody counts steps.
-    pub fn hear_uncounted(&mut self, link: usize, datagram: &[u8]) -> Result<Heard, HubFault>
+    pub fn hear_uncounted(
+        &mut self,
+        link: usize,
+        datagram: &[u8],
+        read: Result<Hearing, Why>,
+    ) -> Result<Heard, HubFault>
+        requires read { fault_as why_not (hearing_of datagram.now) ≡ read }
         ensures ok { IfOk result (λ heard. (hub : Plain) → StandsFor self.old hub → (heard ≡ (hear hub link datagram.now).0) × StandsFor self.new (hear hub link datagram.now).1) }
         ensures err { OnErr result ((hub : Plain) → StandsFor self.old hub → StandsFor self.new hub) }
         ensures kept { IfOk result (λ heard. (heard ≡ (hear self.old link datagram.now).0) × Forgets (hear self.old link datagram.now).1 self.new) }
@@ -135,7 +165,7 @@ impl Hub {
         ensures unread { IfOk result (λ heard. SaysWhy heard (hearing_of datagram.now)) }
         ensures counts { AddsHearing result self.old self.new }
     {
-        self.hear_under::<Brand>(Blank::new(1), link, datagram)
+        self.hear_under::<Brand>(Blank::new(1), link, datagram, read)
     }
 
     /// The same with a counter of its own.
@@ -144,10 +174,12 @@ impl Hub {
         blank: Blank,
         link: usize,
         datagram: &[u8],
+        read: Result<Hearing, Why>,
     ) -> Result<Heard, HubFault>
         requires name { blank.name ≡ L.name }
         requires parts { blank.parts ≡ L.parts }
         requires some { 0 < blank.parts }
+        requires read { fault_as why_not (hearing_of datagram.now) ≡ read }
         ensures ok { IfOk result (λ heard. (hub : Plain) → StandsFor self.old hub → (heard ≡ (hear hub link datagram.now).0) × StandsFor self.new (hear hub link datagram.now).1) }
         ensures err { OnErr result ((hub : Plain) → StandsFor self.old hub → StandsFor self.new hub) }
         ensures kept { IfOk result (λ heard. (heard ≡ (hear self.old link datagram.now).0) × Forgets (hear self.old link datagram.now).1 self.new) }
@@ -156,7 +188,7 @@ impl Hub {
         ensures counts { AddsHearing result self.old self.new }
     {
         let mut steps = Steps::<L>::begin(blank);
-        self.hear(link, datagram, &mut steps)
+        self.hear_read(link, datagram, read, &mut steps)
     }
 
     /// A link, counted from 0, has gone away, and all its rows with it, which is entered. Gives whether it was: nothing changes

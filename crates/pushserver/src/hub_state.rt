@@ -2,6 +2,7 @@
 
 ghost use Rattle.std.specs.Prelude.{◌≡◌, ◌≤◌, List, ℕ, Ok, Some, length, true, IfOk, IfSome, IsTrue, OnErr, OnOk, ok_or};
 ghost use Rattle.std.specs.List.{AllByRecursion};
+ghost use Rattle.push_base.specs.Cases.{fault_as};
 ghost use Rattle.push_base.specs.Limits.{max_moment};
 ghost use Rattle.dnsname.specs.Names.{is_name};
 ghost use Rattle.rrset.specs.Rcodes.{formerr};
@@ -11,7 +12,7 @@ ghost use Rattle.history.specs.Plans.{IsStart};
 ghost use Rattle.history.specs.AtHome.{AreAtHome, homes_in};
 ghost use Rattle.history.specs.States.{entry_size, max_journal_octets, update_in};
 ghost use Rattle.history.specs.declared.entry.Entry.TheVariants as entries;
-ghost use Rattle.pushserver.specs.Hubs.{can_enter, connect, disconnect, hear, link_gone, moment, records_now, stop, take_octets, taken_by, update};
+ghost use Rattle.pushserver.specs.Hubs.{can_enter, connect, disconnect, hear, link_gone, moment, records_now, stop, take_octets, taken_by, update, why_not};
 ghost use Rattle.pushserver.specs.Giving.{reconfirm};
 ghost use Rattle.pushserver.specs.KeptHubs.{Forgets, new_kept};
 ghost use Rattle.pushserver.specs.HubState.{IsSound, kept_of};
@@ -20,9 +21,9 @@ ghost use Rattle.pushserver.specs.Watched.{allowed, gone_changes, hear_changes, 
 ghost use Rattle.push_base.specs.Counted.{CountsUpTo};
 ghost use Rattle.subscr.specs.Watching.{watching_of};
 
-use crate::decode::{read_datagram, read_message};
+use crate::decode::read_message;
 use crate::entering::{code_of, heard_of, is_made};
-use crate::given::Heard;
+use crate::given::{Heard, Why};
 use dnswire::Update;
 use dsosession::session::Timers;
 use history::entry::Entry;
@@ -142,14 +143,16 @@ impl HubState {
         Ok(heard_of(offered))
     }
 
-    /// Hears a datagram of a link, counted from 0 (RFC 6762, 18).
+    /// Hears a datagram of a link, counted from 0 (RFC 6762, 18), that was read.
     pub(crate) fn hear<L: Ledger>(
         &mut self,
         link: usize,
         datagram: &[u8],
+        read: Result<Hearing, Why>,
         steps: &mut Steps<L>,
     ) -> Result<Heard, NoMemory>
-        requires { IsSound self.old }
+        requires sound { IsSound self.old }
+        requires read { fault_as why_not (hearing_of datagram.now) ≡ read }
         ensures heard { IfOk result (λ heard. heard ≡ (hear (kept_of self.old) link datagram.now).0) }
         ensures hub { IfOk result (λ heard. Forgets (hear (kept_of self.old) link datagram.now).1 (kept_of self.new)) }
         ensures err { OnErr result (kept_of self.new ≡ kept_of self.old) }
@@ -157,8 +160,7 @@ impl HubState {
         ensures watched { Watches (watching_of self.new.watchers) self.new.sessions }
         ensures steps { CountsUpTo (allowed (kept_of self.old) (hear_changes (kept_of self.old) link datagram.now)) steps.old steps.new }
     {
-        let alloc = self.allocator();
-        match read_datagram(alloc, datagram)? {
+        match read {
             Ok(hearing) => self.enter_hearing(link, hearing, steps),
             Err(why) => Ok(Heard::Ignored(why)),
         }

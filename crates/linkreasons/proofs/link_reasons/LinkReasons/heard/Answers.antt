@@ -5,7 +5,7 @@ use Rattle.linkask.specs.Bounds.{AreBounds}
 use Rattle.linkreasons.specs.AllReasons.{AllReasons, AreBoundsAt, ReasonsOfLink, askings_of}
 use Rattle.linkreasons.specs.Changing.{heard_by}
 use Rattle.linkreasons.proofs.Calls.{is-heard, these}
-use Rattle.linkreasons.proofs.OneAsked.{changed-others, hears-bounds}
+use Rattle.linkreasons.proofs.OneAsked.{changed-others, hears-bounds, lowers-keep}
 use Rattle.linkreasons.proofs.link_reasons.LinkReasons.heard.Goals as goal
 
 pub invariant_of-self : goal.invariant_of-self
@@ -24,3 +24,8 @@ returns-clause-others c = λ other apart.
     ap (λ (ls : List ReasonsOfLink). slice_get ls other) c.hear_on.ensures
     ∙ changed-others (heard_by c.args.now c.args.hearing.now) c.args.link other c.self.inside.links.items apart
     ∙ ap (λ (a : AllReasons). slice_get a.links other) c.self.view_is
+
+pub returns-clause-keeps : goal.returns-clause-keeps
+returns-clause-keeps c = λ rows other bounds.
+    subst (λ (ls : List ReasonsOfLink). IfSome (slice_get ls other) (λ l. AreBounds rows l.kept)) (sym c.hear_on.ensures)
+    (lowers-keep rows c.args.now c.args.hearing.now c.args.link other c.self.inside.links.items (subst (AreBoundsAt rows other) (sym c.self.view_is) bounds))
