@@ -1,0 +1,4 @@
+pub mod Reactions
+pub mod Folding
+pub mod Telling
+pub mod Machine

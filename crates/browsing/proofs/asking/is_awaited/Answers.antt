@@ -1,0 +1,16 @@
+use Rattle.std.proofs.Common.{◌∙◌, sym, ap}
+use Rattle.pushclient.specs.Clients.{held}
+use Rattle.browsing.proofs.Telling.{awaits_told, told_awaits}
+use Rattle.browsing.proofs.asking.is_awaited.Goals as goal
+
+pub returns-in-Asked : goal.returns-in-Asked
+returns-in-Asked c = λ plain s. sym (ap awaits_told c.in-Asked.is) ∙ told_awaits c.mirror.result (held plain c.args.question.now) (c.mirror.ensures plain s)
+
+pub returns-in-Off : goal.returns-in-Off
+returns-in-Off c = λ plain s. sym (ap awaits_told c.in-Off.is) ∙ told_awaits c.mirror.result (held plain c.args.question.now) (c.mirror.ensures plain s)
+
+pub returns-in-Refused : goal.returns-in-Refused
+returns-in-Refused c = λ plain s. sym (ap awaits_told c.in-Refused.is) ∙ told_awaits c.mirror.result (held plain c.args.question.now) (c.mirror.ensures plain s)
+
+pub returns-in-Answered : goal.returns-in-Answered
+returns-in-Answered c = λ plain s. sym (ap awaits_told c.in-Answered.is) ∙ told_awaits c.mirror.result (held plain c.args.question.now) (c.mirror.ensures plain s)

@@ -1,0 +1,102 @@
+-- Octets as a person reads them: harmless characters of UTF-8 as they are, each other octet behind a backslash (RFC 3629, 4; RFC 6763, 4.1.1).
+--     plain_size dots text      the octets of the harmless character with which a text begins, 0 where it begins with none
+--     shown dots text      how octets are shown
+--     shown_name name      how a name is shown
+use Rattle.std.specs.Prelude.{ℕ, zero, suc, ◌+◌, ◌*◌, ◌/◌, ◌%◌, Bool, true, false, not, ◌&&◌, ◌||◌, List, [], ◌∷◌, ◌++◌, get_or, length, take, drop, max, nat_le, nat_lt, ◌==◌, if◌then◌else◌}
+use Rattle.std.specs.List.{flat_map}
+use Rattle.dnsname.specs.Names.{Labels, octets}
+use Rattle.dnsname.specs.Text.{dot, backslash, decimal, is_special}
+use Rattle.readable.specs.declared.characters.Dots.{Dots}
+use Rattle.readable.specs.declared.characters.Dots.TheVariants as dots
+
+-- the octet at a place, 0 behind the end
+abbrev pub octet_at : ℕ → List ℕ → ℕ
+octet_at place text = get_or text place 0
+
+abbrev pub is_within : ℕ → ℕ → ℕ → Bool
+is_within low high o = nat_le low o && nat_le o high
+
+-- a dot stands as it is
+abbrev pub are_plain : Dots → Bool
+are_plain dots.Escaped = false
+are_plain dots.Plain = true
+
+-- from ' ' to '~', but for a backslash, and for a dot within a label
+abbrev pub is_one : Dots → ℕ → Bool
+is_one d a = is_within 32 126 a && not (a == backslash) && (not (a == dot) || are_plain d)
+
+-- an octet that continues a character
+abbrev pub is_tail : ℕ → Bool
+is_tail o = is_within 128 191 o
+
+-- from U+00A0 to U+07FF, but for U+061C, which turns the direction of a text; below U+00A0 are controls
+abbrev pub is_two : ℕ → ℕ → Bool
+is_two a b = is_within 194 223 a && is_tail b && not (a == 194 && nat_lt b 160) && not (a == 216 && b == 156)
+
+-- U+200E and U+200F, U+2028 to U+202E, U+2066 to U+2069: they separate lines, or turn the direction of a text
+abbrev pub hides : ℕ → ℕ → ℕ → Bool
+hides a b c = a == 226 && ((b == 128 && (c == 142 || c == 143 || is_within 168 174 c)) || (b == 129 && is_within 166 169 c))
+
+-- from U+0800 to U+FFFF, but for surrogates and those
+abbrev pub is_three : ℕ → ℕ → ℕ → Bool
+is_three a b c = is_within 224 239 a && is_tail b && is_tail c && not (a == 224 && nat_lt b 160) && not (a == 237 && nat_le 160 b) && not (hides a b c)
+
+-- from U+10000 to U+10FFFF
+abbrev pub is_four : ℕ → ℕ → ℕ → ℕ → Bool
+is_four a b c d = is_within 240 244 a && is_tail b && is_tail c && is_tail d && not (a == 240 && nat_lt b 144) && not (a == 244 && nat_le 144 b)
+
+abbrev pub character_size : Dots → ℕ → ℕ → ℕ → ℕ → ℕ
+character_size ds a b c d = if is_one ds a then 1 else (if is_two a b then 2 else (if is_three a b c then 3 else (if is_four a b c d then 4 else 0)))
+
+abbrev pub plain_size : Dots → List ℕ → ℕ
+plain_size ds text = character_size ds (octet_at 0 text) (octet_at 1 text) (octet_at 2 text) (octet_at 3 text)
+
+-- an octet behind a backslash: a dot or a backslash as it is, another by its three digits
+abbrev pub escape : ℕ → List ℕ
+escape o = if is_special o then backslash ∷ o ∷ [] else backslash ∷ decimal o
+
+-- what is shown together: a harmless character, or one octet
+abbrev pub first_size : Dots → List ℕ → ℕ
+first_size ds text = max (plain_size ds text) 1
+
+abbrev pub first_piece : Dots → List ℕ → List ℕ
+first_piece ds [] = []
+first_piece ds (o ∷ rest) = if plain_size ds (o ∷ rest) == 0 then escape o else take (plain_size ds (o ∷ rest)) (o ∷ rest)
+
+-- so many characters of a text, one after the other
+abbrev pub shown_characters : ℕ → Dots → List ℕ → List ℕ
+shown_characters zero ds text = []
+shown_characters (suc more) ds text = first_piece ds text ++ shown_characters more ds (drop (first_size ds text) text)
+
+-- no text has more characters than octets
+abbrev pub shown : Dots → List ℕ → List ℕ
+shown ds text = shown_characters (length text) ds text
+
+-- each label with a dot behind it
+abbrev pub shown_label : List ℕ → List ℕ
+shown_label label = shown dots.Escaped label ++ dot ∷ []
+
+abbrev pub shown_name : Labels → List ℕ
+shown_name name = flat_map shown_label name
+
+-- ---- the same, from a name's octets
+
+abbrev pub label_front : List ℕ → List ℕ
+label_front [] = []
+label_front (size ∷ behind) = take size behind
+
+abbrev pub label_rest : List ℕ → List ℕ
+label_rest [] = []
+label_rest (size ∷ behind) = drop size behind
+
+-- a label in front of what is shown of the others, nothing at the root's empty one
+abbrev pub shown_before : List ℕ → List ℕ → List ℕ
+shown_before [] rest = []
+shown_before (o ∷ label) rest = shown_label (o ∷ label) ++ rest
+
+abbrev pub shown_parts : ℕ → List ℕ → List ℕ
+shown_parts zero text = []
+shown_parts (suc more) text = shown_before (label_front text) (shown_parts more (label_rest text))
+
+abbrev pub shown_labels : List ℕ → List ℕ
+shown_labels text = shown_parts (length text) text

@@ -1,0 +1,5 @@
+use Rattle.std.proofs.Common.{rules}
+use Rattle.services.proofs.listing.host_addresses.Goals as goal
+
+pub returns : goal.returns
+returns c = λ plain s. let is = c.rows_of-rows.ensures plain s in search rules
