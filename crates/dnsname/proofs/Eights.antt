@@ -1,15 +1,16 @@
--- Octets that are compared by eights.
---     eight_is      the number of eight octets that are read one by one
+-- Octets that are compared by eights or fours.
+--     eight_is, four_is      the number of octets that are read one by one
 --     past      octets that begin alike are ordered as what follows
---     decided_by, alike_behind, ended_alike      the number of eight octets, by whether those of the other are the same
-use Rattle.std.proofs.Common.{◌≡◌, ℕ, zero, suc, ◌+◌, ◌*◌, ◌<◌, ◌≤◌, min, true, false, true≢false, List, [], ◌∷◌, length, get_or, take, drop, refl, sym, ap, subst, ◌∙◌, arith}
+--     decided_by, alike_behind, ended_alike, alike_front      the number of so many octets, by whether those of the other
+--         are the same
+use Rattle.std.proofs.Common.{◌≡◌, ℕ, zero, suc, ◌+◌, ◌-◌, ◌*◌, ◌<◌, ◌≤◌, min, true, false, true≢false, List, [], ◌∷◌, length, get_or, take, drop, refl, sym, ap, subst, ◌∙◌, arith}
 use Rattle.std.specs.Ordering.{is_ne, nat_cmp, ordering_reverse, ordering_then, MatchOrdering}
 use Rattle.std.specs.List.{AllByRecursion}
 use Rattle.std.specs.declared.cmp.Ordering.{Ordering}
 use Rattle.std.specs.declared.cmp.Ordering.TheVariants.{Less, Equal, Greater}
 use Rattle.std.specs.Cmp.{nat_cmp_is}
 use Rattle.std.specs.Cmp.Lexicographic.{nat_list_cmp_total, slice_cmp}
-use Rattle.std.specs.Int.{w64, from_be_bytes}
+use Rattle.std.specs.Int.{w32, w64, from_be_bytes}
 use Rattle.std.proofs.lemmas.Cmp.{ranked}
 use Rattle.std.proofs.lemmas.List.{drop_more, length-drop, take-take}
 use Rattle.dnsname.specs.Eights.{spelled}
@@ -21,7 +22,7 @@ octets_cmp a b = slice_cmp nat_cmp a b
 abbrev AreBelow : ℕ → List ℕ → Type 0
 AreBelow n os = AllByRecursion (λ o. o < 256) (take n os)
 
--- ---- eight octets that are read one by one
+-- ---- octets that are read one by one
 
 abbrev reads : List ℕ → ℕ → ℕ → ℕ → List ℕ
 reads os i k zero = drop (i + k) os
@@ -39,6 +40,13 @@ eight_is os i le =
     let at : i ≡ i + 0 = omega arith in
     let here : get_or os (i + 0) 0 ≡ get_or os i 0 = ap (λ (k : ℕ). get_or os k 0) (sym at) in
     omega (arith, here) ∙ sym (ap (λ (k : ℕ). spelled 0 8 (drop k os)) at ∙ ap (spelled 0 8) (read_out 8 os i 0 (omega arith)))
+
+pub four_is : (os : List ℕ) (i : ℕ) → i + 4 ≤ length os
+    → from_be_bytes w32 (get_or os i 0 ∷ get_or os (i + 1) 0 ∷ get_or os (i + 2) 0 ∷ get_or os (i + 3) 0 ∷ []) ≡ spelled 0 4 (drop i os)
+four_is os i le =
+    let at : i ≡ i + 0 = omega arith in
+    let here : get_or os (i + 0) 0 ≡ get_or os i 0 = ap (λ (k : ℕ). get_or os k 0) (sym at) in
+    omega (arith, here) ∙ sym (ap (λ (k : ℕ). spelled 0 4 (drop k os)) at ∙ ap (spelled 0 4) (read_out 4 os i 0 (omega arith)))
 
 -- ---- the octets behind decide nothing where what is before them differs
 
@@ -118,28 +126,34 @@ one_ended [] (y ∷ ys) m n i e f g = nat_cmp_is m n Less (omega arith)
 one_ended (x ∷ xs) [] m n i e f g = nat_cmp_is m n Greater (omega arith)
 one_ended (x ∷ xs) (y ∷ ys) m n i e f g = absurd (omega arith)
 
--- ---- two runs of octets, alike up to a place behind which eight more stand
+-- ---- two runs of octets, alike up to a place behind which so many more stand
 
-module _ (xs ys : List ℕ) (at : ℕ) (eight-x : AreBelow 8 (drop at xs)) (eight-y : AreBelow 8 (drop at ys)) (alike : take at xs ≡ take at ys) where
+module _ (n : ℕ) (xs ys : List ℕ) (at : ℕ) (below-x : AreBelow n (drop at xs)) (below-y : AreBelow n (drop at ys)) (alike : take at xs ≡ take at ys) where
   -- they differ there
-  pub decided_by : (r : Ordering) → r ≡ nat_cmp (spelled 0 8 (drop at xs)) (spelled 0 8 (drop at ys)) → MatchOrdering r (r ≡ octets_cmp xs ys) (Unit {0}) (r ≡ octets_cmp xs ys)
-  decided_by Less is = sym (past at xs ys alike ∙ spelled-less 8 0 (drop at xs) (drop at ys) eight-y (ranked _ _ Less is))
+  pub decided_by : (r : Ordering) → r ≡ nat_cmp (spelled 0 n (drop at xs)) (spelled 0 n (drop at ys)) → MatchOrdering r (r ≡ octets_cmp xs ys) (Unit {0}) (r ≡ octets_cmp xs ys)
+  decided_by Less is = sym (past at xs ys alike ∙ spelled-less n 0 (drop at xs) (drop at ys) below-y (ranked _ _ Less is))
   decided_by Equal is = tt
   decided_by Greater is =
       sym (past at xs ys alike
       ∙ nat_list_cmp_total.antisymm (drop at xs) (drop at ys)
-      ∙ ap ordering_reverse (spelled-less 8 0 (drop at ys) (drop at xs) eight-x (ranked _ _ Greater is)))
+      ∙ ap ordering_reverse (spelled-less n 0 (drop at ys) (drop at xs) below-x (ranked _ _ Greater is)))
 
-  module _ (within-x : at + 8 ≤ length xs) (within-y : at + 8 ≤ length ys) where
-    pub alike_behind : Equal ≡ nat_cmp (spelled 0 8 (drop at xs)) (spelled 0 8 (drop at ys)) → take (at + 8) xs ≡ take (at + 8) ys
+  module _ (within-x : at + n ≤ length xs) (within-y : at + n ≤ length ys) where
+    pub alike_behind : Equal ≡ nat_cmp (spelled 0 n (drop at xs)) (spelled 0 n (drop at ys)) → take (at + n) xs ≡ take (at + n) ys
     alike_behind is =
-        let same = spelled-same 8 0 0 (drop at xs) (drop at ys) (omega (arith, length-drop at xs)) (omega (arith, length-drop at ys)) eight-x eight-y (ranked _ _ Equal is) in
-        more_alike at 8 xs ys alike same.1
+        let same = spelled-same n 0 0 (drop at xs) (drop at ys) (omega (arith, length-drop at xs)) (omega (arith, length-drop at ys)) below-x below-y (ranked _ _ Equal is) in
+        more_alike at n xs ys alike same.1
 
-    pub ended_alike : at + 8 ≡ min (length xs) (length ys) → Equal ≡ nat_cmp (spelled 0 8 (drop at xs)) (spelled 0 8 (drop at ys)) → nat_cmp (length xs) (length ys) ≡ octets_cmp xs ys
+    pub ended_alike : at + n ≡ min (length xs) (length ys) → Equal ≡ nat_cmp (spelled 0 n (drop at xs)) (spelled 0 n (drop at ys)) → nat_cmp (length xs) (length ys) ≡ octets_cmp xs ys
     ended_alike end is =
-        sym (past (at + 8) xs ys (alike_behind is)
-        ∙ one_ended (drop (at + 8) xs) (drop (at + 8) ys) (length xs) (length ys) (at + 8) (omega (arith, length-drop (at + 8) xs)) (omega (arith, length-drop (at + 8) ys)) end)
+        sym (past (at + n) xs ys (alike_behind is)
+        ∙ one_ended (drop (at + n) xs) (drop (at + n) ys) (length xs) (length ys) (at + n) (omega (arith, length-drop (at + n) xs)) (omega (arith, length-drop (at + n) ys)) end)
+
+-- so many octets in front are the same, and what is before so many that end where one of both ends is no more than these
+pub alike_front : (n : ℕ) (xs ys : List ℕ) (shared : ℕ) → AreBelow n xs → AreBelow n ys → shared ≡ min (length xs) (length ys) → n ≤ shared → shared ≤ n + n
+    → Equal ≡ nat_cmp (spelled 0 n xs) (spelled 0 n ys) → take (shared - n) xs ≡ take (shared - n) ys
+alike_front n xs ys shared below-x below-y is low high same =
+    fewer_alike n (shared - n) xs ys (omega (arith, high)) (spelled-same n 0 0 xs ys (omega (arith, is, low)) (omega (arith, is, low)) below-x below-y (ranked _ _ Equal same)).1
 
 -- one of two orders that aren't equal
 pub decides : (r whole : Ordering) → MatchOrdering r (r ≡ whole) (Unit {0}) (r ≡ whole) → (r ≡ Equal → ⊥) → r ≡ whole

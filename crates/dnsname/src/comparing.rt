@@ -1,6 +1,6 @@
 //! The order of octets.
 
-ghost use Rattle.std.specs.Prelude.{◌≡◌, ◌+◌, ◌<◌, ◌≤◌, drop, length, map, take};
+ghost use Rattle.std.specs.Prelude.{◌≡◌, ◌+◌, ◌<◌, ◌≤◌, drop, length, map, min, take};
 ghost use Rattle.std.specs.Char.{to_ascii_lowercase};
 ghost use Rattle.std.specs.Cmp.Lexicographic.{slice_cmp};
 ghost use Rattle.std.specs.List.{AllByRecursion};
@@ -27,7 +27,21 @@ fn eight_at(octets: &[u8], place: usize) -> u64
     ])
 }
 
-/// The order of octets that are fewer than eight on one side. It stands apart, as it wants its arguments in memory.
+/// The number that four octets spell, the highest first.
+fn four_at(octets: &[u8], place: usize) -> u32
+    requires { place + 4 ≤ length octets.now }
+    ensures number { result ≡ spelled 0 4 (drop place octets.now) }
+    ensures octets { AllByRecursion (λ o. o < 256) (take 4 (drop place octets.now)) }
+{
+    u32::from_be_bytes([
+        octets[place],
+        octets[place + 1],
+        octets[place + 2],
+        octets[place + 3],
+    ])
+}
+
+/// The order of octets that are fewer than four on one side. It stands apart, as it wants its arguments in memory.
 #[inline(never)]
 fn compare_few(first: &[u8], second: &[u8]) -> Ordering
     ensures { result ≡ slice_cmp nat_cmp first.now second.now }
@@ -35,13 +49,35 @@ fn compare_few(first: &[u8], second: &[u8]) -> Ordering
     first.cmp(second)
 }
 
-/// The order of octets, which are compared by eights.
+/// The order of octets of which one side has so many, from four to eight, and the other at least as many. They are
+/// compared by fours.
+fn compare_fours(first: &[u8], second: &[u8], shared: usize) -> Ordering
+    requires shared { shared ≡ min (length first.now) (length second.now) }
+    requires bounds { (4 ≤ shared) × (shared ≤ 8) }
+    ensures { result ≡ slice_cmp nat_cmp first.now second.now }
+{
+    let order = four_at(first, 0).cmp(&four_at(second, 0));
+    if order.is_ne() {
+        return order;
+    }
+    // The last four may begin inside the first.
+    let last = shared - 4;
+    match four_at(first, last).cmp(&four_at(second, last)) {
+        Ordering::Equal => first.len().cmp(&second.len()),
+        unequal => unequal,
+    }
+}
+
+/// The order of octets, which are compared by eights, or where one side has fewer by fours.
 pub fn compare_octets(first: &[u8], second: &[u8]) -> Ordering
     ensures { result ≡ slice_cmp nat_cmp first.now second.now }
 {
     let shared = first.len().min(second.len());
-    if shared < 8 {
+    if shared < 4 {
         return compare_few(first, second);
+    }
+    if shared < 8 {
+        return compare_fours(first, second, shared);
     }
     // The last eight may begin inside those before.
     let last = shared - 8;
