@@ -1,6 +1,6 @@
 //! Finite maps from keys to values, as to what is shown of them.
 
-ghost use Rattle.std.specs.Prelude.{◌≡◌, ◌≤◌, ◌+◌, ◌⊎◌, [], Bool, false, length, IfOk, IfErr, IsOk, OnOk, OnErr, IsTrue, is_some, Some, None, MatchOption};
+ghost use Rattle.std.specs.Prelude.{◌≡◌, ◌≤◌, ◌+◌, ◌⊎◌, [], Bool, false, length, nat_le, IfOk, IfErr, IsOk, OnOk, OnErr, IsTrue, is_some, Some, None, MatchOption};
 ghost use Rattle.std.specs.Fn.{CalledAt, ComputesKey};
 ghost use Rattle.rrset.specs.RecordSet.{size_at};
 ghost use Rattle.rrset.specs.KeyedRows.{is_rising, row_at, put_row, without_rows, only_rows, rows_of};
@@ -130,10 +130,12 @@ impl<V: Drop> Table<V> {
         self.entries.reserve_exact(keys)
     }
 
-    /// Makes room for so many further keys where one of them isn't there.
+    /// Makes room for so many further keys where one of them isn't there. It takes no memory where this one is there,
+    /// or there is room for them.
     pub fn reserve_for(&mut self, key: &Key, keys: usize) -> Result<(), NoMemory>
         ensures rows { self.new.rows ≡ self.old.rows }
         ensures room { OnOk result (is_some (row_at key.now self.old.rows) ≡ false → keys ≤ self.new.spare) }
+        ensures succeeds { (keys ≤ self.old.spare) ⊎ IsTrue (is_some (row_at key.now self.old.rows)) → IsOk result }
         ensures kept { self.old.spare ≤ self.new.spare }
     {
         // Where there is room, the key isn't looked for.
@@ -158,7 +160,7 @@ impl<V: Drop> Table<V> {
 
     /// Whether there is room for so many further keys.
     fn has_room(&self, keys: usize) -> bool
-        ensures { IsTrue result → keys ≤ self.now.spare }
+        ensures { result ≡ nat_le keys self.now.spare }
     {
         keys <= self.entries.capacity().saturating_sub(self.entries.len())
     }
