@@ -208,7 +208,8 @@ impl<K: Ord + Drop> Deadlines<K> {
     }
 
     /// Takes out the key with the least moment, the least of several keys, where that moment is `moment` or before it,
-    /// and gives it. Nothing exactly where no key is due.
+    /// and gives it. Nothing exactly where no key is due. No crate here calls it; it is kept for users of the library,
+    /// who take keys out one by one.
     pub fn take_due(&mut self, moment: u64) -> Option<K>
         ensures key { result ≡ option_map (λ d. d.1) (slice_get (due moment self.old.deadlines) 0) }
         ensures deadlines { self.new.deadlines ≡ (if is_some result then drop 1 self.old.deadlines else self.old.deadlines) }

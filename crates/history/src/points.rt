@@ -162,7 +162,8 @@ impl Points {
         self.past.floor(size)
     }
 
-    /// Whether the entries from a point on and one more of a size are within the two numbers.
+    /// Whether the entries from a point on and one more of a size are within the two numbers. No crate here calls it;
+    /// it is kept for users of the library, who may ask before they append.
     pub fn room(&self, from: u64, size: u64) -> bool
         requires { self.now.past.number ≤ from }
         ensures { result ≡ has_room self.now.past from size }
@@ -171,7 +172,7 @@ impl Points {
     }
 
     /// The records at a point that a question asks for, in key order, told anew from the start. The past begins at the
-    /// start's number.
+    /// start's number. No crate here calls it; it is kept for users of the library, who look back.
     pub fn records_at(
         &self,
         alloc: Global,

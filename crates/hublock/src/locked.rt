@@ -78,7 +78,8 @@ impl<B: Books> Locked<B> {
         }
     }
 
-    /// The hub stands for a plain one, whose counts are the totals of the books.
+    /// The hub stands for a plain one, whose counts are the totals of the books. No crate here calls it: it says what
+    /// holds at each moment, for proofs of users of the library.
     pub fn holds(&self)
         ensures { (plain : Plain) × StandsFor self.now.hub.hub plain × (self.now.books ≡ totals plain.history) × (self.now.seats ≡ plain.numbers_given) }
     {
@@ -246,7 +247,8 @@ impl<B: Books> Locked<B> {
         self.hub.counts()
     }
 
-    /// Through a feed never more of a group was accepted than the journal counts.
+    /// Through a feed never more of a group was accepted than the journal counts. No crate here calls it: it says what
+    /// holds at each moment, for proofs of users of the library.
     pub fn finds(&mut self, feed: &mut Feed<B>)
         ensures bound { IsBelow feed.old.sums (counted self.old.hub) }
         ensures same { (self.new ≡ self.old) × (feed.new ≡ feed.old) }
