@@ -1,4 +1,24 @@
 //! Unicast queries and the replies to them (RFC 1034, 4.3.2; RFC 1035, 4.1).
+//!
+//! **Model.** A `Query` is an ID, flags and one question, its name as written. A reply depends on a message and on what
+//! is `Known`: which names have a home, and all records. `reply_to` in `specs/Replies` says which octets the reply has.
+//! `specs/Spelling` says which octets are a query, and `specs/Queries` how they are read, with the first fault.
+//!
+//! **Flow.** A caller brings its records by the trait `Lookup` (`lookup.rt`). `write_reply_to` (`replying.rt`) reads
+//! the message with `read_query` (`query.rt`). What is no query is answered with FORMERR. A name without a home is
+//! refused, and so is a class that is not served. A meta kind other than ANY is answered with NOTIMP. For all else
+//! `walk.rt` appends the records asked for, going along CNAMEs to eight targets at most.
+//!
+//! **Begin** with `specs/Replies` beside RFC 1034, 4.3.2, then `replying.rt` and `walk.rt`. The examples below show
+//! queries, replies and walks.
+//!
+//! **Change.** How a walk is made step by step is private: `specs/Steps` serves these proofs, and one of `replay`.
+//! `reply_to` is cited by the laws of `pushserver` and of `script_laws`, so its words stay. No reply may be taken for
+//! an answer without an error in a DSO session (`RepliesAreAnswers`). The bound on a reply's octets (`RepliesFit`)
+//! rests on the limit of a name and on eight targets.
+//!
+//! **Stand on it**: `pushserver` (replies to queries, from the records at the newest point), `script_laws` (what a
+//! script promises of each message), and the crates above these.
 #![tactic(auto)]
 
 pub mod laws;

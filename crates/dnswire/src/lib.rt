@@ -1,4 +1,27 @@
 //! Messages of the DNS (RFC 1035, 4).
+//!
+//! **Model.** Octets are read from left to right, and the first fault that is met is given with its place
+//! (`WireFault`). `specs/Reading` is a function from octets to what is read, or to that fault. `specs/Spelling` says
+//! the same without an order of reading: which octets spell which message. `laws.rt` promises, of updates and hearings,
+//! that both agree, and that none has two meanings. What is read is an `Update` (RFC 2136), a `Hearing` (RFC 6762), or
+//! the four sections of a query.
+//!
+//! **Flow.** `read_update` (`update.rt`) and `read_hearing` (`mdns.rt`) both call `read_sections` (`section.rt`). It
+//! reads the counted entries one by one (`record.rt`), and their numbers and names (`field.rt`). `Shaped` says whose
+//! records they are, and so which rdata must have the shape of its kind. `header.rt` has the places in a header, and
+//! `writing.rt` appends headers, questions and records, with no pointers in names. `write_query` writes the datagram
+//! that asks a link, with known answers as far as they fit.
+//!
+//! **Begin** with `specs/Reading` beside RFC 1035, 4.1, then `section.rt`. `laws.rt` has what is promised of it.
+//!
+//! **Change.** How entries are read is private, as long as the first fault stays the same. `update_of` and `hearing_of`
+//! are cited by `history`, `pushserver`, `relay` and crates above, so their words stay. A change of `specs/Reading`
+//! asks for one of `specs/Spelling` too, or the laws fail. Additional records of an update are read and dropped. Of a
+//! hearing, octets behind the counted entries are ignored.
+//!
+//! **Stand on it**: `pushserver` (reads updates and datagrams), `dnsquery` (reads queries and writes replies),
+//! `linkask` (writes questions to a link), `relay` (writes an update), `history` and `zoneupdate` (take an `Update`),
+//! and the laws of the hub.
 #![tactic(auto)]
 
 mod field;

@@ -1,4 +1,26 @@
 //! What a link is asked, and when (RFC 6762, 5.2 and 7.1).
+//!
+//! **Model.** An `Asker` is a list of questions in the order of names and kinds. Of each it keeps the number of
+//! reasons, how often it was asked, and when last (`KeptAsks`). It keeps a bound as well: before that moment the
+//! question is not due (`specs/Bounds`). `specs/Asking` says without bounds when a question is due, and which datagram
+//! asks it. A question is due at once, then after a second, then after twice the pause each time, an hour at most. It
+//! is due sooner where a record that answers it grows old.
+//!
+//! **Flow.** `asker.rt` has the calls. `want`, `unwant` and `ask_anew` change the questions and their reasons
+//! (`entries.rt`). `heard` lowers the bounds of questions whose records a link has said (`refresh.rt`). `next` looks
+//! for the first question that is due. A bound that has come is made exact from the rows of the name (`asks.rt`). Then
+//! `known.rt` writes the datagram, with the known answers that have at least half their TTL left.
+//!
+//! **Begin** with `specs/Asking` beside RFC 6762, 5.2, then `specs/Bounds`, then `asker.rt`. `specs/Reasons` says why a
+//! link is asked; the code for it is in `linkreasons`.
+//!
+//! **Change.** How entries are searched, and how bounds are made exact, is private. `next` and `is_due` in
+//! `specs/Asking` are what users see, so their words stay. `AreBounds` must hold after each step of a link, or a due
+//! question could be missed. By `AskedOnce`, asking until none is due sends each due question once.
+//!
+//! **Stand on it**: `linkreasons` (an `Asker` for each link, and the reasons for its questions), `hubasking` (what a
+//! link is asked behind each call), `replay` (cites the laws of the schedule where a script asks), and the crates above
+//! these.
 #![tactic(auto)]
 
 pub mod asker;

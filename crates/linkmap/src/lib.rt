@@ -1,4 +1,27 @@
 //! Translation between a link and its domain (RFC 8766, 5.5).
+//!
+//! **Model.** Nothing is kept here: all calls are functions of names and records. `specs/Translation` says what they
+//! give. `shown_as` puts the link's domain in place of `local.`, in the owner and in the names inside rdata. `heard_as`
+//! goes the other way. `is_usable` says which records of a link are used. An address of its link alone is used, but
+//! never shown (RFC 8766, 5.5.2).
+//!
+//! **Flow.** `translation.rt` has the calls. `usable` tests class, kind and owner, and that each name fits under the
+//! domain. The names inside rdata are tested in `inside.rt`, octet by octet, by the rule in `names.rt`. None of these
+//! tests takes memory. `show` writes a usable record anew with other names, its TTL being at most the cap. `back` gives
+//! the record of the link for a record of the domain, where there is one. `fits_under`, `fits_back`, `rdata_under` and
+//! `rdata_back` are for callers whose owners stay as they are.
+//!
+//! **Begin** with `specs/Translation`, then `specs/Laws`, then `translation.rt`. The examples below show addresses,
+//! pointers and names that no longer fit.
+//!
+//! **Change.** How names inside rdata are tested is private: `specs/Names` is there for these proofs alone. A change of
+//! `is_usable`, `shown_as` or `heard_as` must leave all laws true. `EachIsShownByItself` keeps two records of a link
+//! from being shown with one key. `HeardIsShown` and `ShownIsHeard` let a caller go from a shown record to the heard
+//! one.
+//!
+//! **Stand on it**: `reversemap` (the names inside rdata, under reverse domains), `linkcache` (what a link uses and
+//! shows), `history` (which domains a link may have), `linkask` (its specs put questions into a link's words), and the
+//! crates above these.
 #![tactic(auto)]
 
 mod inside;

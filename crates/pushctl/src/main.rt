@@ -1,4 +1,22 @@
 //! Shows what a DNS Push server knows, live.
+//!
+//! **Model.** This is the program `pushctl`: its words become a `Request`, and a `Status` becomes its exit status. Its
+//! outside is `System`, the real one of `push_outside`. A line gets a clothing (`Clothing` in `stamped.rt`): nothing,
+//! the time of day, or the moment (RFC 3339).
+//!
+//! **Flow.** `main` makes the outside, and `run` reads the words as `command_line.rt` allows them. `request_of` brings
+//! the names that were typed to NFC, and makes names of them (RFC 6763, 4.1.1). `browse_as` chooses the style, the
+//! colours and the time zone, and calls `browse` of `pushctl_commands`. Its lines go through `Stamped`, a sink that
+//! puts the time before each. Notes go to standard error where the list is written once, and else to standard output.
+//!
+//! **Begin** with `command_line.rt`, which has all words with their help, then `run` and `browse_as` below.
+//!
+//! **Change.** There are no specs here, so what can be proved belongs into `pushctl_commands` or `readable`. Words may
+//! be added, but those that are there, and the statuses, must stay for scripts of users. Each write to `Stamped` must
+//! be one line, as the time is put before each write. `main` must fill the descriptors 0 to 2 first: else a connection
+//! may take one that is closed.
+//!
+//! **Stand on it**: nothing; it is a program.
 #![tactic(auto)]
 
 mod command_line;

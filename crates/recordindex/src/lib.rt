@@ -1,4 +1,24 @@
 //! All records by names, and the names that their owners end in properly (RFC 2308, 2; RFC 8020, 2).
+//!
+//! **Model.** A `RecordIndex` is an `Index` of all records, and beside it the names that owners end in (`Suffixes`). At
+//! each such name a number is kept: how many names with one label more are counted there. Those count that are owners,
+//! once for each row, and those that have a number themselves (`Agrees` in `specs/Endings`). So a name above zero has
+//! owners below it, though it may own no record.
+//!
+//! **Flow.** `RecordIndex::from_table` takes a table of rows, and counts their owners (`counting.rt`). `reserve_for`
+//! makes room for a list of changes: in the index for their keys, in `suffixes.rt` for their owners. `make_changes`
+//! (`changing.rt`) then shows or takes out each key, and counts its owner once more or once less. `walking.rt` goes
+//! from a name towards the root, and stops where another owner ends already. `ending.rt` changes the number of one
+//! name. `below` answers by two look-ups at most, however many names there are.
+//!
+//! **Begin** with `worked_counts` below, then `specs/Endings` and `specs/Owners`, then `record_index.rt`.
+//!
+//! **Change.** How endings are counted is private: outside this crate a single proof of `pushserver` cites these specs.
+//! `below` must go on to say what its contract says, since `pushserver` answers queries by it. `make_changes` takes no
+//! memory where `reserve_for` made room, and that must stay. Both calls count one step for each change.
+//!
+//! **Stand on it**: `pushserver`, the only one by name (makes the changes of each entry, and answers queries from it).
+//! Through it sessions read the same `Index`.
 #![tactic(auto)]
 
 mod changing;

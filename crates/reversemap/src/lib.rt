@@ -1,4 +1,24 @@
 //! Records of a link under its reverse domains (RFC 8766, 5.4).
+//!
+//! **Model.** Nothing is kept here: all calls are functions of names, lists of domains, and records. Under a reverse
+//! domain an owner stays as the link said it. Only names inside rdata that end in `local.` get the link's domain
+//! (`specs/Reverse`). `specs/BothKinds` joins this with `linkmap`: `is_used`, `shown_of` and `heard_of` speak of all
+//! records of a link. The owner tells of which kind a record is.
+//!
+//! **Flow.** `reverse.rt` has all calls, and the names inside rdata are the work of `linkmap`. `reverse_usable` tests
+//! class, kind and owner, and that all names fit under the domain. `reverse_show` writes a usable record with its names
+//! translated, the TTL being at most the cap. `reverse_back` gives the record of the link for a shown one, where there
+//! is one. `is_reverse_domain` says which names can be reverse domains (RFC 1035, 3.5; RFC 3596, 2.5).
+//!
+//! **Begin** with `specs/Reverse` beside RFC 8766, 5.4, then `specs/BothKinds`, then `reverse.rt`.
+//!
+//! **Change.** The private functions of `reverse.rt` may be written otherwise, as long as they keep their contracts.
+//! `is_used`, `shown_of` and `heard_of` are the words in which `linkcache` speaks of rows, so they stay.
+//! `OwnersStayApart` and `EachIsShownByItself` need domains that stand apart (`AreApart`), which a link's cache
+//! promises.
+//!
+//! **Stand on it**: `linkcache` (rows under reverse domains, and what is shown of both kinds), `history` (which names
+//! may be reverse domains), and the crates above these.
 #![tactic(auto)]
 
 pub mod laws;

@@ -1,4 +1,28 @@
 //! Resource records (RFC 1035, 3.2), their keys, questions and sets.
+//!
+//! **Model.** A record that is kept has two halves: a `Key`, and what is shown of it (`Shown`). The key says which
+//! record it is: owner, class, TYPE and rdata, with all names in lower case. `Shown` has the owner and the rdata as
+//! they were last written, and the TTL. A `Table` is a finite map from keys to values, in key order
+//! (`specs/KeyedRows`). A record set (`specs/RecordSet`) holds records of any names, so it is no RRset of RFC 2181.
+//!
+//! **Flow.** `rdata_reader.rt` reads rdata from a message by the shape of its kind (`shape.rt`). `Rr::key`
+//! (`renaming.rt`) and `Rr::shown` (`shown.rt`) give the two halves of a record. `table.rt` keeps rows in the order of
+//! `order.rt`. `matching.rt` tells which keys a question asks for, and how large a record is. `comparing.rt` tells two
+//! tables apart, as a list of `Changed`. `header.rt`, `kinds.rt`, `classes.rt` and `rcodes.rt` have the numbers of the
+//! protocol.
+//!
+//! **Begin** with `record.rt` and `specs/Records`, then `specs/RecordSet`. `specs/Rdata` has the shapes, beside RFC
+//! 1035, 3.3.
+//!
+//! **Change.** How tables search and make room is private, and `specs/ReadParts` serves the proofs here alone.
+//! `key_of`, `matches` and the words of `specs/RecordSet` stay, since laws all the way up speak of them. The key order
+//! puts the owner first, so that all rows of a name stand together. That `put` takes no memory, once there is room, is
+//! what plans above rest on. A further kind with a shape needs its number in `kinds.rt`, and its parts in `shape.rt`
+//! and `specs/Rdata`.
+//!
+//! **Stand on it**: `nametable` (a `Table` for each name), `dnswire` (reads and writes records), `dsotlv` (questions,
+//! records and headers), `linkmap` (changes names inside rdata), `subscr` (keys and questions), `mirror` (a `Table` of
+//! what was told), and nearly all above.
 #![tactic(auto)]
 
 pub mod classes;
