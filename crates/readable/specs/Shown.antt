@@ -3,7 +3,7 @@
 --     shown dots text      how octets are shown
 --     shown_name name      how a name is shown
 use Rattle.std.specs.Prelude.{ℕ, zero, suc, ◌+◌, ◌*◌, ◌/◌, ◌%◌, Bool, true, false, not, ◌&&◌, ◌||◌, List, [], ◌∷◌, ◌++◌, get_or, length, take, drop, max, nat_le, nat_lt, ◌==◌, if◌then◌else◌}
-use Rattle.std.specs.List.{flat_map}
+use Rattle.std.specs.List.{flat_map, list_any}
 use Rattle.dnsname.specs.Names.{Labels, octets}
 use Rattle.dnsname.specs.Text.{dot, backslash, decimal, is_special}
 use Rattle.readable.specs.declared.characters.Dots.{Dots}
@@ -29,21 +29,36 @@ is_one d a = is_within 32 126 a && not (a == backslash) && (not (a == dot) || ar
 abbrev pub is_tail : ℕ → Bool
 is_tail o = is_within 128 191 o
 
--- from U+00A0 to U+07FF, but for U+061C, which turns the direction of a text; below U+00A0 are controls
+-- the code point of a character of two, three or four octets: the low bits of each (RFC 3629, 3)
+abbrev pub two_point : ℕ → ℕ → ℕ
+two_point a b = a % 32 * 64 + b % 64
+
+abbrev pub three_point : ℕ → ℕ → ℕ → ℕ
+three_point a b c = a % 16 * 4096 + b % 64 * 64 + c % 64
+
+abbrev pub four_point : ℕ → ℕ → ℕ → ℕ → ℕ
+four_point a b c d = a % 8 * 262144 + b % 64 * 4096 + c % 64 * 64 + d % 64
+
+-- The first and the last of each range of characters that look like nothing, turn the direction of a text or separate lines: all that Unicode 15
+-- calls Default_Ignorable_Code_Point, but for the variation selectors; U+2028 and U+2029; and the marks of annotations, U+FFF9 to U+FFFB.
+abbrev pub hidden : List (ℕ × ℕ)
+hidden = (0xad, 0xad) ∷ (0x34f, 0x34f) ∷ (0x61c, 0x61c) ∷ (0x115f, 0x1160) ∷ (0x17b4, 0x17b5) ∷ (0x180e, 0x180e) ∷ (0x200b, 0x200f) ∷ (0x2028, 0x202e) ∷ (0x2060, 0x206f)
+    ∷ (0x3164, 0x3164) ∷ (0xfeff, 0xfeff) ∷ (0xffa0, 0xffa0) ∷ (0xfff0, 0xfffb) ∷ (0x1bca0, 0x1bca3) ∷ (0x1d173, 0x1d17a) ∷ (0xe0000, 0xe00ff) ∷ (0xe01f0, 0xe0fff) ∷ []
+
+unfoldable pub is_hidden : ℕ → Bool
+is_hidden point = list_any (λ range. is_within range.0 range.1 point) hidden
+
+-- from U+00A0 to U+07FF, but for hidden ones; below U+00A0 are controls
 abbrev pub is_two : ℕ → ℕ → Bool
-is_two a b = is_within 194 223 a && is_tail b && not (a == 194 && nat_lt b 160) && not (a == 216 && b == 156)
+is_two a b = is_within 194 223 a && is_tail b && not (a == 194 && nat_lt b 160) && not (is_hidden (two_point a b))
 
--- U+200E and U+200F, U+2028 to U+202E, U+2066 to U+2069: they separate lines, or turn the direction of a text
-abbrev pub hides : ℕ → ℕ → ℕ → Bool
-hides a b c = a == 226 && ((b == 128 && (c == 142 || c == 143 || is_within 168 174 c)) || (b == 129 && is_within 166 169 c))
-
--- from U+0800 to U+FFFF, but for surrogates and those
+-- from U+0800 to U+FFFF, but for surrogates and hidden ones
 abbrev pub is_three : ℕ → ℕ → ℕ → Bool
-is_three a b c = is_within 224 239 a && is_tail b && is_tail c && not (a == 224 && nat_lt b 160) && not (a == 237 && nat_le 160 b) && not (hides a b c)
+is_three a b c = is_within 224 239 a && is_tail b && is_tail c && not (a == 224 && nat_lt b 160) && not (a == 237 && nat_le 160 b) && not (is_hidden (three_point a b c))
 
--- from U+10000 to U+10FFFF
+-- from U+10000 to U+10FFFF, but for hidden ones
 abbrev pub is_four : ℕ → ℕ → ℕ → ℕ → Bool
-is_four a b c d = is_within 240 244 a && is_tail b && is_tail c && is_tail d && not (a == 240 && nat_lt b 144) && not (a == 244 && nat_le 144 b)
+is_four a b c d = is_within 240 244 a && is_tail b && is_tail c && is_tail d && not (a == 240 && nat_lt b 144) && not (a == 244 && nat_le 144 b) && not (is_hidden (four_point a b c d))
 
 abbrev pub character_size : Dots → ℕ → ℕ → ℕ → ℕ → ℕ
 character_size ds a b c d = if is_one ds a then 1 else (if is_two a b then 2 else (if is_three a b c then 3 else (if is_four a b c d then 4 else 0)))

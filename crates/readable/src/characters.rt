@@ -1,7 +1,7 @@
 //! Octets as a person reads them: what is UTF-8 and harmless stands as it is (RFC 3629, 4).
 
 ghost use Rattle.std.specs.Prelude.{◌≡◌, ◌++◌, drop, OnOk};
-ghost use Rattle.readable.specs.Shown.{character_size, escape, first_piece, first_size, hides, is_four, is_one, is_tail, is_three, is_two, octet_at, plain_size, shown};
+ghost use Rattle.readable.specs.Shown.{character_size, escape, first_piece, first_size, four_point, is_four, is_hidden, is_one, is_tail, is_three, is_two, octet_at, plain_size, shown, three_point, two_point};
 
 use push_base::{NoMemory, front_of};
 
@@ -38,20 +38,66 @@ fn is_tail(octet: u8) -> bool
     128 <= octet && octet <= 191
 }
 
-// Whether two octets are a harmless character: no control, and not the mark of direction U+061C.
+// The characters that look like nothing, turn the direction of a text or separate lines: the first and the last of each range.
+const HIDDEN: &[(u32, u32)] = &[
+    (0xad, 0xad),
+    (0x34f, 0x34f),
+    (0x61c, 0x61c),
+    (0x115f, 0x1160),
+    (0x17b4, 0x17b5),
+    (0x180e, 0x180e),
+    (0x200b, 0x200f),
+    (0x2028, 0x202e),
+    (0x2060, 0x206f),
+    (0x3164, 0x3164),
+    (0xfeff, 0xfeff),
+    (0xffa0, 0xffa0),
+    (0xfff0, 0xfffb),
+    (0x1bca0, 0x1bca3),
+    (0x1d173, 0x1d17a),
+    (0xe0000, 0xe00ff),
+    (0xe01f0, 0xe0fff),
+];
+
+// Whether a character is hidden.
+#[tactic(auto, unfolding(crate::specs::Shown::is_hidden))]
+fn is_hidden(point: u32) -> bool
+    ensures { result ≡ is_hidden point }
+{
+    HIDDEN
+        .iter()
+        .any(|range| range.0 <= point && point <= range.1)
+}
+
+// The code point of two octets.
+fn two_point(a: u8, b: u8) -> u32
+    ensures { result ≡ two_point a b }
+{
+    u32::from(a % 32) * 64 + u32::from(b % 64)
+}
+
+// The code point of three octets.
+fn three_point(a: u8, b: u8, c: u8) -> u32
+    ensures { result ≡ three_point a b c }
+{
+    u32::from(a % 16) * 4096 + u32::from(b % 64) * 64 + u32::from(c % 64)
+}
+
+// The code point of four octets.
+fn four_point(a: u8, b: u8, c: u8, d: u8) -> u32
+    ensures { result ≡ four_point a b c d }
+{
+    u32::from(a % 8) * 262_144
+        + u32::from(b % 64) * 4096
+        + u32::from(c % 64) * 64
+        + u32::from(d % 64)
+}
+
+// Whether two octets are a harmless character: no control, and none that is hidden.
 fn is_two(a: u8, b: u8) -> bool
     ensures { result ≡ is_two a b }
 {
-    194 <= a && a <= 223 && is_tail(b) && !(a == 194 && b < 160) && !(a == 216 && b == 156)
-}
-
-// Whether three octets separate lines or turn the direction of a text.
-fn hides(a: u8, b: u8, c: u8) -> bool
-    ensures { result ≡ hides a b c }
-{
-    a == 226
-        && ((b == 128 && (c == 142 || c == 143 || (168 <= c && c <= 174)))
-            || (b == 129 && 166 <= c && c <= 169))
+    194 <= a && a <= 223 && is_tail(b) && !(a == 194 && b < 160) && !is_hidden(two_point(a, b))
 }
 
 // Whether three octets are a harmless character.
@@ -64,10 +110,10 @@ fn is_three(a: u8, b: u8, c: u8) -> bool
         && is_tail(c)
         && !(a == 224 && b < 160)
         && !(a == 237 && 160 <= b)
-        && !hides(a, b, c)
+        && !is_hidden(three_point(a, b, c))
 }
 
-// Whether four octets are a character.
+// Whether four octets are a harmless character.
 fn is_four(a: u8, b: u8, c: u8, d: u8) -> bool
     ensures { result ≡ is_four a b c d }
 {
@@ -78,6 +124,7 @@ fn is_four(a: u8, b: u8, c: u8, d: u8) -> bool
         && is_tail(d)
         && !(a == 240 && b < 144)
         && !(a == 244 && 144 <= b)
+        && !is_hidden(four_point(a, b, c, d))
 }
 
 // How many octets the harmless character has that begins so, 0 where none does.

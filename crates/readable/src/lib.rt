@@ -2,8 +2,9 @@
 //!
 //! **Model.** Text is a list of octets, and harmless characters of UTF-8 stand as they are. Each other octet stands
 //! behind a backslash: a dot or a backslash as it is, another by its three digits. Controls, and characters that turn
-//! the direction of a text, aren't harmless, as a server could garble a terminal with them. `specs/Shown` says what is
-//! shown, `specs/Typed` which name was typed, and `specs/Addresses` how an address is written.
+//! the direction of a text, aren't harmless, as a server could garble a terminal with them. Nor are those that look
+//! like nothing, as one name could be taken for another. `specs/Shown` says what is shown, `specs/Typed` which name was
+//! typed, and `specs/Addresses` how an address is written.
 //!
 //! **Flow.** For output, `push_name` (`naming.rt`) appends a name, label by label, each with a dot behind it. It hands
 //! each label to `push_shown` (`characters.rt`), which appends what people read. `Dots` says whether a dot stands
