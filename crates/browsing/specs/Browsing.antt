@@ -1,8 +1,9 @@
 -- A machine that browses, as a plain client with what is shown of it.
 --     Browsing      the plain machine
 --     turned octets now b      a read gave these octets, and now it is this moment: what changed of what is shown, and the machine then
+--     is_idle octets now b      the read gave none, and by this moment nothing is due
 --     StandsAs browser b      what is kept stands for the plain machine
-use Rattle.std.specs.Prelude.{◌≡◌, ℕ, zero, suc, ◌^◌, Bool, true, false, not, ◌&&◌, List, [], ◌∷◌, ◌++◌, length, fold, Option, Some, None, nat_le, ◌==◌, if◌then◌else◌}
+use Rattle.std.specs.Prelude.{◌≡◌, ℕ, zero, suc, ◌^◌, Bool, true, false, not, ◌&&◌, ◌||◌, List, [], ◌∷◌, ◌++◌, length, fold, Option, Some, None, nat_le, ◌==◌, if◌then◌else◌}
 use Rattle.std.specs.List.{list_any}
 use Rattle.rrset.specs.Records.{same_question}
 use Rattle.rrset.specs.declared.record.Question.{Question}
@@ -19,8 +20,10 @@ use Rattle.services.specs.declared.service.Change.{Change}
 use Rattle.browsing.specs.declared.showing.Showing.{Showing}
 use Rattle.browsing.specs.declared.showing.Progress.{Progress}
 use Rattle.browsing.specs.declared.showing.TheConstants as times
+use Rattle.browsing.specs.declared.stage.Stage.{Stage}
+use Rattle.browsing.specs.declared.stage.Stage.TheVariants as stages
 use Rattle.browsing.specs.declared.browser.Browser.{Browser}
-use Rattle.browsing.specs.Showing.{later, shows, shows_nothing, begins_anew}
+use Rattle.browsing.specs.Showing.{is_overdue, later, shows, shows_nothing, begins_anew}
 
 -- ---- hearing
 
@@ -89,19 +92,20 @@ is_answered known root needed = is_held known root && not (are_awaited known nee
 
 -- ---- the machine
 
--- the client, what it browses for, what it asked and hasn't dropped, when octets last came, and what is shown
+-- the client, what it browses for, what it asked and hasn't dropped, when octets last came, what is shown, and what the last turn left to be waited for
 pub record Browsing : Type 0 where
   pub client : Client
   pub root : Question
   pub asked : List Question
   pub heard : ℕ
   pub showing : Showing
+  pub stage : Stage
 
 abbrev pub begins : Question → Browsing
-begins root = record { client = (subscribe new_client root).1; root = root; asked = root ∷ []; heard = 0; showing = shows_nothing }
+begins root = record { client = (subscribe new_client root).1; root = root; asked = root ∷ []; heard = 0; showing = shows_nothing; stage = stages.Begun }
 
 abbrev pub is_connected_at : ℕ → Browsing → Browsing
-is_connected_at now b = record b { client = connected now b.client; heard = now; showing = begins_anew now b.showing }
+is_connected_at now b = record b { client = connected now b.client; heard = now; showing = begins_anew now b.showing; stage = stages.Begun }
 
 abbrev pub is_cut : Browsing → Browsing
 is_cut b = record b { client = cut b.client }
@@ -133,20 +137,50 @@ is_settled needed now b = has_answers needed b && nat_le (later b.heard times.QU
 abbrev pub progress : List Question → ℕ → Browsing → Progress
 progress needed now b = record { answered = has_answers needed b; settled = is_settled needed now b }
 
+-- what is left to be waited for: a turn that dropped some questions made room for others, so one more is due
+abbrev pub stage_after : Progress → ℕ → ℕ → Stage
+stage_after far asked kept = if not far.answered then stages.Waiting else (if far.settled && nat_le asked kept then stages.Calm else stages.Answered)
+
 -- where it is settled what isn't needed is dropped; and the list is shown, where it is ripe
 abbrev pub concludes : List Service → List Question → ℕ → Browsing → List Change × Browsing
 concludes list needed now b =
     let far = progress needed now b in
     let shown = shows list far now b.showing in
-    (shown.0, record (if far.settled then forgets needed b else b) { showing = shown.1 })
+    let left = if far.settled then forgets needed b else b in
+    (shown.0, record left { showing = shown.1; stage = stage_after far (length b.asked) (length left.asked) })
 
 -- the list that is made of what is heard; what it needs is asked
-abbrev pub turned : List ℕ → ℕ → Browsing → List Change × Browsing
-turned octets now b =
+abbrev pub turns : List ℕ → ℕ → Browsing → List Change × Browsing
+turns octets now b =
     let heard = listens octets now b in
     let list = list_of heard in
     let needed = needs b.root list in
     concludes list needed now (asks needed now heard)
+
+-- of these stages one that isn't over by time waits for octets; one that is over where nothing has come for a while is due then
+abbrev pub is_stage_over : Stage → Bool → Bool
+is_stage_over stages.Begun quiet = true
+is_stage_over stages.Waiting quiet = false
+is_stage_over stages.Answered quiet = quiet
+is_stage_over stages.Calm quiet = false
+
+-- by this moment a turn is due, though no octet has come: its stage is over, or a list has waited as long as it waits at most
+abbrev pub is_due : Stage → ℕ → Showing → ℕ → Bool
+is_due stage heard showing now = is_stage_over stage (nat_le (later heard times.QUIET) now) || is_overdue now showing
+
+abbrev pub idles : List ℕ → Stage → ℕ → Showing → ℕ → Bool
+idles octets stage heard showing now = length octets == 0 && not (is_due stage heard showing now)
+
+abbrev pub is_idle : List ℕ → ℕ → Browsing → Bool
+is_idle octets now b = idles octets b.stage b.heard b.showing now
+
+-- only the moment passes
+abbrev pub waits : ℕ → Browsing → Browsing
+waits now b = record b { client = moment b.client now }
+
+-- An idle turn tells nothing, and asks nothing: what is known is what it was, and the list was made of that.
+abbrev pub turned : List ℕ → ℕ → Browsing → List Change × Browsing
+turned octets now b = if is_idle octets now b then ([], waits now b) else turns octets now b
 
 abbrev pub refused_in : Held → Option ℕ
 refused_in (refused_with rcode) = Some rcode
@@ -162,3 +196,4 @@ pub record StandsAs (browser : Browser) (b : Browsing) : Type 0 where
   pub asked : browser.asked ≡ b.asked
   pub heard : browser.heard ≡ b.heard
   pub showing : browser.showing ≡ b.showing
+  pub stage : browser.stage ≡ b.stage

@@ -1,5 +1,6 @@
 -- Which list is shown, and when.
 --     shows list progress now showing      what changed of what is shown, and what is shown then
+--     is_overdue now showing      a list that isn't shown yet has waited as long as it waits at most
 use Rattle.std.specs.Prelude.{ℕ, ◌+◌, min, Bool, true, false, not, ◌&&◌, ◌||◌, List, [], length, Option, Some, None, nat_le, ◌==◌, if◌then◌else◌}
 use Rattle.std.specs.List.{list_all}
 use Rattle.services.specs.Services.{changes}
@@ -37,6 +38,10 @@ abbrev pub is_ripe : Showing → List Service → Progress → ℕ → Bool
 is_ripe s list progress now = progress.settled || (if s.whole
     then (progress.answered && are_found list) || nat_le (later (since s now) times.PATIENCE) now
     else nat_le (later s.begun times.GRACE) now)
+
+-- a list that differs has waited as long as it waits at most
+abbrev pub is_overdue : ℕ → Showing → Bool
+is_overdue now s = elim s.differs [ None ↦ false | Some moment ↦ if s.whole then nat_le (later moment times.PATIENCE) now else nat_le (later s.begun times.GRACE) now ]
 
 -- what is known makes the list that is shown
 abbrev pub is_same : Showing → List Service → Bool

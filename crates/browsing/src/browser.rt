@@ -5,11 +5,12 @@ ghost use Rattle.push_base.specs.Limits.{max_questions};
 ghost use Rattle.pushclient.specs.Clients.{closed_as, output_of};
 ghost use Rattle.pushclient.specs.HandedOut.{without_output};
 ghost use Rattle.browsing.specs.Showing.{later};
-ghost use Rattle.browsing.specs.Browsing.{Browsing, StandsAs, asks, begins, concludes, forgets, is_connected_at, is_cut, list_of, listens, progress, refusal, turned};
+ghost use Rattle.browsing.specs.Browsing.{Browsing, StandsAs, asks, begins, concludes, forgets, is_connected_at, is_cut, list_of, listens, progress, refusal, turned, turns};
 
 use crate::asking::{ask_all, drop_all, is_answered};
 use crate::hearing::hear;
 use crate::showing::{Progress, QUIET, Showing};
+use crate::stage::{Stage, is_idle, stage_after};
 use dsosession::session::CloseReason;
 use push_base::NoMemory;
 use push_base::limits::MAX_QUESTIONS;
@@ -27,6 +28,7 @@ pub struct Browser {
     asked: Questions,
     heard: u64,
     showing: Showing,
+    stage: Stage,
 }
 
 // When octets last came.
@@ -58,6 +60,7 @@ impl Browser {
             asked,
             heard: 0,
             showing: Showing::new(alloc),
+            stage: Stage::Begun,
         })
     }
 
@@ -68,6 +71,7 @@ impl Browser {
         self.client.connected(now)?;
         self.heard = now;
         self.showing.begin(now);
+        self.stage = Stage::Begun;
         Ok(())
     }
 
@@ -81,6 +85,18 @@ impl Browser {
     /// A read gave these octets, and now it is this moment. Gives what changed of what is shown.
     pub fn turn(&mut self, alloc: Global, octets: &[u8], now: u64) -> Result<Changes, NoMemory>
         ensures { IfOk result (λ told. (b : Browsing) → StandsAs self.old b → (told ≡ (turned octets.now now b).0) × StandsAs self.new (turned octets.now now b).1) }
+    {
+        if is_idle(octets, self.stage, self.heard, &self.showing, now) {
+            self.client.moment(now)?;
+            return Ok(Changes::new(alloc));
+        }
+        let told = self.turn_over(alloc, octets, now)?;
+        Ok(told)
+    }
+
+    // What is heard makes a list, and what that needs is asked. Gives what changed of what is shown.
+    fn turn_over(&mut self, alloc: Global, octets: &[u8], now: u64) -> Result<Changes, NoMemory>
+        ensures { IfOk result (λ told. (b : Browsing) → StandsAs self.old b → (told ≡ (turns octets.now now b).0) × StandsAs self.new (turns octets.now now b).1) }
     {
         self.listen(octets, now)?;
         let list = services(alloc, &self.client, &self.root)?;
@@ -117,6 +133,13 @@ impl Browser {
         Progress { answered, settled }
     }
 
+    // How many questions are asked.
+    fn count(&self) -> usize
+        ensures { (b : Browsing) → StandsAs self.now b → result ≡ length b.asked }
+    {
+        self.asked.as_slice().len()
+    }
+
     // Drops what isn't needed, where that is settled.
     fn forget(&mut self, alloc: Global, needed: &[Question], settled: bool) -> Result<(), NoMemory>
         ensures { OnOk result ((b : Browsing) → StandsAs self.old b → StandsAs self.new (if settled then forgets needed.now b else b)) }
@@ -141,7 +164,9 @@ impl Browser {
         ensures { IfOk result (λ told. (b : Browsing) → StandsAs self.old b → (told ≡ (concludes list needed.now now b).0) × StandsAs self.new (concludes list needed.now now b).1) }
     {
         let progress = self.progress(needed, now);
+        let asked = self.count();
         self.forget(alloc, needed, progress.settled)?;
+        self.stage = stage_after(progress, asked, self.count());
         let told = self.showing.show(alloc, list, progress, now)?;
         Ok(told)
     }
@@ -194,7 +219,7 @@ impl Browser {
     pub fn is_full(&self) -> bool
         ensures { (b : Browsing) → StandsAs self.now b → result ≡ nat_le max_questions (length b.asked) }
     {
-        MAX_QUESTIONS <= self.asked.as_slice().len()
+        MAX_QUESTIONS <= self.count()
     }
 
     /// The list that is shown.

@@ -6,6 +6,7 @@
 //! shown only then.
 //!
 //! **Flow.** `Browser::turn` (`browser.rt`) takes the octets of a read, and the client reacts to them (`hearing.rt`).
+//! Where a read gave none, and nothing is due by then (`stage.rt`), only the moment passes: that costs no list.
 //! Then `services` makes a list of the records, and `needs` says what it asks for. What wasn't asked is asked, and once
 //! all is settled, what isn't needed is dropped (`asking.rt`). `showing.rt` shows the list where it is ripe, and gives
 //! the changes. `Browser::output` gives the octets that are to be sent.
@@ -24,6 +25,7 @@ mod asking;
 mod browser;
 mod hearing;
 mod showing;
+mod stage;
 
 pub use browser::Browser;
 pub use push_base::NoMemory;

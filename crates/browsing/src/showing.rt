@@ -1,7 +1,7 @@
 //! Which list is shown, and when.
 
 ghost use Rattle.std.specs.Prelude.{◌≡◌, IfOk, OnOk};
-ghost use Rattle.browsing.specs.Showing.{are_found, begins_anew, is_found, is_ripe, shows, shows_nothing, since};
+ghost use Rattle.browsing.specs.Showing.{are_found, begins_anew, is_found, is_overdue, is_ripe, shows, shows_nothing, since};
 
 use push_base::NoMemory;
 use services::{Changes, Service, Services, changes};
@@ -82,6 +82,19 @@ impl Showing {
             None => now,
             Some(moment) => moment,
         }
+    }
+
+    /// Whether a list that differs has waited as long as it waits at most.
+    pub(crate) fn is_overdue(&self, now: u64) -> bool
+        ensures { result ≡ is_overdue now self.now }
+    {
+        let Some(moment) = self.differs else {
+            return false;
+        };
+        if !self.whole {
+            return self.begun.saturating_add(GRACE) <= now;
+        }
+        moment.saturating_add(PATIENCE) <= now
     }
 
     // Whether another list is shown now.

@@ -1,8 +1,8 @@
-use Rattle.std.proofs.Common.{◌≡◌, List, ◌∙◌, ap, subst}
+use Rattle.std.proofs.Common.{◌≡◌, ℕ, List, length, ◌∙◌, ap, subst}
 use Rattle.browsing.specs.declared.showing.Showing.{Showing}
 use Rattle.browsing.specs.declared.showing.Progress.{Progress}
 use Rattle.browsing.specs.Showing.{shows}
-use Rattle.browsing.specs.Browsing.{StandsAs, progress}
+use Rattle.browsing.specs.Browsing.{StandsAs, progress, stage_after}
 use Rattle.browsing.proofs.Machine.{forgotten, shows_as_before}
 use Rattle.browsing.proofs.browser.Browser.conclude.Goals as goal
 
@@ -20,6 +20,9 @@ returns c = λ b s.
         root = left.root;
         asked = left.asked;
         heard = left.heard;
+        stage = c.stage_after-self.ensures ∙ ap (λ (w : Progress). stage_after w c.count-asked.result c.count.result) far
+            ∙ ap (λ (n : ℕ). stage_after (progress needed now b) n c.count.result) (c.count-asked.ensures b s)
+            ∙ ap (stage_after (progress needed now b) (length b.asked)) (c.count.ensures (forgotten (progress needed now b).settled needed b) left);
         showing = c.in_ok-told.ensures.shown ∙ ap (λ (w : Progress). (shows list w now c.forget.new.self.showing).1) far ∙ ap (λ (w : Showing). (shows list (progress needed now b) now w).1) same;
       },
     )

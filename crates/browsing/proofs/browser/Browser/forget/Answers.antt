@@ -22,4 +22,4 @@ returns c = λ b s.
     subst (λ (qs : List Question). NotesAs c.drop_all.new.client c.drop_all.new.kept (drops_all needed b.asked (b.client, qs))) c.new-kept.ensures second in
     let e : c.args.settled ≡ true = search rules in
     let new : Browser = record c.args.self.now { client = c.drop_all.new.client; asked = c.drop_all.new.kept } in
-    subst (λ (t : Bool). StandsAs new (forgotten t needed b)) (sym e) (record { client = third.0; root = s.root; asked = third.1; heard = s.heard; showing = s.showing })
+    subst (λ (t : Bool). StandsAs new (forgotten t needed b)) (sym e) (record { client = third.0; root = s.root; asked = third.1; heard = s.heard; showing = s.showing; stage = s.stage })

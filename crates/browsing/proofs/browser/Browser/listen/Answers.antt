@@ -9,4 +9,5 @@ returns c = λ b s. record {
   asked = s.asked;
   heard = c.heard_at-self.ensures ∙ ap (λ (h : ℕ). if length c.args.octets.now == 0 then h else c.args.now) s.heard;
   showing = s.showing;
+  stage = s.stage;
 }
