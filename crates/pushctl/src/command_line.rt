@@ -57,7 +57,7 @@ fn browse_command<'a>(alloc: Global) -> Result<Command<'a>, AllocError> {
             "With --once: how long it takes at most",
         ))?
         .arg(flag(alloc, "lines", "Print fields between tabs"))?
-        .arg(flag(alloc, "json", "Print an object of JSON in each line"))?
+        .arg(flag(alloc, "json", "Print an object of JSON in each line").conflicts_with("lines")?)?
         .arg(flag(alloc, "wide", "Don't cut long texts"))?
         .arg(color(alloc))
 }

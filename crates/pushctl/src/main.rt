@@ -1,8 +1,9 @@
 //! Shows what a DNS Push server knows, live.
 //!
 //! **Model.** This is the program `pushctl`: its words become a `Request`, and a `Status` becomes its exit status. Its
-//! outside is `System`, the real one of `push_outside`. A line gets a clothing (`Clothing` in `stamped.rt`): nothing,
-//! the time of day, or the moment (RFC 3339).
+//! outside is `System`, the real one of `push_outside`, over a network whose attempts to connect end in time
+//! (`prompt.rt`). A line gets a clothing (`Clothing` in `stamped.rt`): nothing, the time of day, or the moment
+//! (RFC 3339).
 //!
 //! **Flow.** `main` makes the outside, and `run` reads the words as `command_line.rt` allows them. `request_of` brings
 //! the names that were typed to NFC, and makes names of them (RFC 6763, 4.1.1). `browse_as` chooses the style, the
@@ -20,9 +21,11 @@
 #![tactic(auto)]
 
 mod command_line;
+mod prompt;
 mod stamped;
 
 use crate::command_line::command;
+use crate::prompt::Prompt;
 use crate::stamped::{Clothing, Stamped};
 use clap::ArgMatches;
 use dnsname::Name;
@@ -58,7 +61,7 @@ fn main(rt: HostRuntime) -> ExitCode {
         File::open(&rt, "/"),
     );
     let logged = Logged::new(rt, LevelFilter::Off, Discard);
-    let mut outside = System::new(rt, logged, rt.alloc());
+    let mut outside = System::new(Prompt::new(rt), logged, rt.alloc());
     let status = outcome(rt, rt.stdout(), rt.stderr(), &mut outside);
     drop(taken);
     ExitCode::from(status)
