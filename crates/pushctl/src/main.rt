@@ -272,12 +272,15 @@ fn browse_as<R: Reached, O: Outside>(
     let color = has_color(&rt, matches, is_terminal);
     let clothing = clothing_of(style, request.once, color);
     let mut sink = Stamped::new(rt, alloc, zone, clothing, out);
-    let status = if request.once {
+    let (status, is_starved) = if request.once {
         let mut notes = Stamped::new(rt, alloc, zone, clothing, err);
-        browse(alloc, &request, home, &mut sink, &mut notes, outside)
+        let status = browse(alloc, &request, home, &mut sink, &mut notes, outside);
+        (status, notes.is_starved())
     } else {
         let mut notes = Stamped::new(rt, alloc, zone, clothing, out);
-        browse(alloc, &request, home, &mut sink, &mut notes, outside)
+        let status = browse(alloc, &request, home, &mut sink, &mut notes, outside);
+        (status, notes.is_starved())
     };
-    status.code()
+    let is_starved = is_starved || sink.is_starved();
+    status.where_starved(is_starved).code()
 }

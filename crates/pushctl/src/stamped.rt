@@ -34,6 +34,8 @@ pub(crate) struct Stamped<'a, R, W> {
     clothing: Clothing,
     inner: W,
     faults: u64,
+    // Whether memory for a line was wanting.
+    starved: bool,
 }
 
 impl<'a, R: Clock, W: Write> Stamped<'a, R, W> {
@@ -52,6 +54,7 @@ impl<'a, R: Clock, W: Write> Stamped<'a, R, W> {
             clothing,
             inner,
             faults: 0,
+            starved: false,
         }
     }
 
@@ -118,8 +121,18 @@ impl<'a, R: Clock, W: Write> Stamped<'a, R, W> {
     {
         match self.dressed(piece) {
             Ok(line) => self.inner.write_all(&line).is_ok(),
-            Err(_) => false,
+            Err(_) => {
+                self.starved = true;
+                false
+            }
         }
+    }
+
+    /// Whether memory for a line was wanting.
+    pub(crate) fn is_starved(&self) -> bool
+        ensures { result ≡ self.now.starved }
+    {
+        self.starved
     }
 }
 

@@ -1,9 +1,10 @@
 //! A conversation over one connection.
 
-ghost use Rattle.std.specs.Prelude.{◌≡◌, ◌<◌, ◌≤◌, length};
+ghost use Rattle.std.specs.Prelude.{◌≡◌, ◌<◌, ◌≤◌, length, IfOk, IfSome};
 ghost use Rattle.pushctl_commands.specs.Lateness.{is_late};
+ghost use Rattle.pushctl_commands.specs.Statuses.{IsEndingOf};
 
-use crate::ending::{Ending, ending_of};
+use crate::ending::{Ending, ending_told};
 use crate::notes::{fault_line, whole_line};
 use crate::request::{Request, Style};
 use crate::wording::{Wording, change_line};
@@ -164,20 +165,17 @@ fn put_whole<N: Sink>(
 }
 
 // How the conversation ends, if it does.
-fn ending(request: &Request<'_>, course: &Course) -> Option<Ending> {
-    if let Some(rcode) = course.browser.refused() {
-        return Some(Ending::Refused(rcode));
-    }
-    if let Some(reason) = course.browser.closed() {
-        return Some(ending_of(reason));
-    }
-    if request.once && is_quiet(request, course) {
-        return Some(Ending::Whole);
-    }
-    if is_late(request, course, 0) {
-        return Some(Ending::TimedOut);
-    }
-    None
+fn ending(request: &Request<'_>, course: &Course) -> Option<Ending>
+    ensures { IfSome result (IsEndingOf request.now) }
+{
+    let is_whole = request.once && is_quiet(request, course);
+    let is_late = is_late(request, course, 0);
+    ending_told(
+        course.browser.refused(),
+        course.browser.closed(),
+        is_whole,
+        is_late,
+    )
 }
 
 // Whether the list is whole, and nothing has changed for long enough.
@@ -185,91 +183,90 @@ fn is_quiet(request: &Request<'_>, course: &Course) -> bool {
     course.browser.is_whole() && course.changed.saturating_add(request.quiet) <= course.now
 }
 
-/// What is said and heard over the two ends of a new connection, until it ends.
+/// The two ends of a connection.
+#[derive(Drop)]
+pub(crate) struct Talk<L, W> {
+    pub alloc: Global,
+    pub line: L,
+    pub wire: W,
+    /// Whether an octet came.
+    pub has_heard: bool,
+}
+
+/// What is said and heard over a new connection, until it ends.
 pub(crate) fn converse<L: Line, W: Wire, C: Clock, K: Sink, N: Sink>(
-    alloc: Global,
     request: &Request<'_>,
     course: &mut Course,
-    line: &mut L,
-    wire: &mut W,
+    talk: &mut Talk<L, W>,
     clock: &mut C,
     out: &mut K,
     notes: &mut N,
-) -> Result<Ending, Fault> {
-    let mut buffer = vec![in alloc; 0u8; MOST_READ]?;
-    follow(
-        alloc,
-        request,
-        course,
-        line,
-        wire,
-        clock,
-        out,
-        notes,
-        buffer.as_mut_slice(),
-    )
+) -> Result<Ending, Fault>
+    ensures { IfOk result (IsEndingOf request.now) }
+{
+    let mut buffer = vec![in talk.alloc; 0u8; MOST_READ]?;
+    let buffer = buffer.as_mut_slice();
+    follow(request, course, talk, clock, out, notes, buffer)
 }
 
 // Reads until the conversation ends.
 fn follow<L: Line, W: Wire, C: Clock, K: Sink, N: Sink>(
-    alloc: Global,
     request: &Request<'_>,
     course: &mut Course,
-    line: &mut L,
-    wire: &mut W,
+    talk: &mut Talk<L, W>,
     clock: &mut C,
     out: &mut K,
     notes: &mut N,
     buffer: &mut [u8],
 ) -> Result<Ending, Fault>
     requires { 1 ≤ length buffer.old }
+    ensures { IfOk result (IsEndingOf request.now) }
 {
-    let mut has_heard = false;
     let mut left = u64::MAX;
     'reads: while left > 0 {
-        let turned = turn(
-            alloc,
-            request,
-            course,
-            line,
-            wire,
-            clock,
-            out,
-            notes,
-            buffer,
-            &mut has_heard,
-        )?;
-        if let Some(ending) = turned {
-            return Ok(ending);
+        match turn(request, course, talk, clock, out, notes, buffer)? {
+            Some(ending) => return Ok(ending),
+            None => {}
         }
         left -= 1;
     }
-    Ok(Ending::TimedOut)
+    Ok(Ending::Gone(talk.has_heard))
 }
 
-// Sends what is to be sent, reads once, and says what comes of it. Gives how the conversation ends, if it does.
+// Sends what is to be sent, and reads once. Gives how many octets came, or nothing where none will.
+fn exchange<L: Line, W: Wire, C: Clock>(
+    course: &mut Course,
+    talk: &mut Talk<L, W>,
+    clock: &mut C,
+    buffer: &mut [u8],
+) -> Result<Option<usize>, Fault>
+    requires { 1 ≤ length buffer.old }
+{
+    let is_sent = send(talk.alloc, course, &mut talk.wire, buffer)?;
+    let got = read_behind(is_sent, &mut talk.line, buffer);
+    course.now = clock.now().min(MAX_MOMENT);
+    Ok(got)
+}
+
+// Sends and reads once, and says what comes of it. Gives how the conversation ends, if it does.
 fn turn<L: Line, W: Wire, C: Clock, K: Sink, N: Sink>(
-    alloc: Global,
     request: &Request<'_>,
     course: &mut Course,
-    line: &mut L,
-    wire: &mut W,
+    talk: &mut Talk<L, W>,
     clock: &mut C,
     out: &mut K,
     notes: &mut N,
     buffer: &mut [u8],
-    has_heard: &mut bool,
 ) -> Result<Option<Ending>, Fault>
     requires { 1 ≤ length buffer.old }
+    ensures { IfOk result (λ ending. IfSome ending (IsEndingOf request.now)) }
 {
-    let is_sent = send(alloc, course, wire, buffer)?;
-    let got = read_behind(is_sent, line, buffer);
-    course.now = clock.now().min(MAX_MOMENT);
-    let Some(count) = got else {
-        return Ok(Some(Ending::Gone(*has_heard)));
+    let Some(count) = exchange(course, talk, clock, buffer)? else {
+        return Ok(Some(Ending::Gone(talk.has_heard)));
     };
-    *has_heard = *has_heard || count > 0;
+    talk.has_heard = talk.has_heard || count > 0;
     course.has_heard = course.has_heard || count > 0;
-    take(alloc, request, course, front_of(buffer, count), out, notes)?;
+    let octets = front_of(buffer, count);
+    take(talk.alloc, request, course, octets, out, notes)?;
     Ok(ending(request, course))
 }

@@ -1,9 +1,12 @@
 //! The command `browse`: it dials, and dials again, and keeps the list.
 
-ghost use Rattle.std.specs.Prelude.{IfOk};
+ghost use Rattle.std.specs.Prelude.{◌≡◌, ◌⊎◌, max, min, IfOk};
 ghost use Rattle.pushctl_commands.specs.Lateness.{GoesOnInTime};
+ghost use Rattle.pushctl_commands.specs.Statuses.{FollowsSo, IsEndingOf, IsNextOf, IsStatusOf, delay_renewed, goes_on_after, late_status, next_delay};
+ghost use Rattle.pushctl_commands.specs.declared.dialling.Next.TheVariants as nexts;
+ghost use Rattle.pushctl_commands.specs.declared.status.Status.TheVariants as statuses;
 
-use crate::converse::{Course, converse, is_late, put_full};
+use crate::converse::{Course, Talk, converse, is_late, put_full};
 use crate::ending::Ending;
 use crate::notes::{fault_line, refused_line, trouble_line};
 use crate::request::Request;
@@ -13,7 +16,7 @@ use crate::writing::{Fault, put};
 use browsing::Browser;
 use dnsname::Name;
 use push_base::limits::MAX_MOMENT;
-use push_base::{Clock, NoMemory, Octets, Sink};
+use push_base::{Clock, Line, NoMemory, Octets, Sink, Wire};
 use push_outside::{OpenFault, Outside};
 use rrset::classes;
 use rrset::kinds::PTR;
@@ -21,13 +24,14 @@ use rrset::record::Question;
 use services::{Service, Services};
 use std::alloc::Global;
 
-// So many milliseconds pass before the second attempt, and between later ones at most.
-const FIRST_DELAY: u64 = 1_000;
+/// So many milliseconds pass before the second attempt, and as many twice before the third.
+pub const FIRST_DELAY: u64 = 1_000;
 
-const LAST_DELAY: u64 = 60_000;
+/// The longest delay.
+pub const LAST_DELAY: u64 = 60_000;
 
-// A connection that lasted so many milliseconds makes the delays begin anew.
-const LASTING: u64 = 60_000;
+/// A connection that lasted so many milliseconds makes the delays begin anew.
+pub const LASTING: u64 = 60_000;
 
 // What comes next.
 #[derive(Clone, Copy)]
@@ -64,12 +68,16 @@ fn table(alloc: Global, wording: &Wording, services: &[Service]) -> Result<Vec<O
 }
 
 // The delay behind this one.
-fn next_delay(delay: u64) -> u64 {
+fn next_delay(delay: u64) -> u64
+    ensures { result ≡ next_delay delay }
+{
     delay.saturating_mul(2).max(FIRST_DELAY).min(LAST_DELAY)
 }
 
 // A connection that lasted makes the delays begin anew.
-fn renew(course: &mut Course) {
+fn renew(course: &mut Course)
+    ensures { course.new ≡ record course.old { delay = delay_renewed course.old } }
+{
     if course.connected.saturating_add(LASTING) <= course.now {
         course.delay = 0;
     }
@@ -82,7 +90,9 @@ fn end_late<K: Sink, N: Sink>(
     course: &Course,
     out: &mut K,
     notes: &mut N,
-) -> Result<Status, Fault> {
+) -> Result<Status, Fault>
+    ensures { IfOk result (λ status. status ≡ late_status course.entry.now) }
+{
     if !course.has_heard {
         let line = fault_line(alloc, request.style, "the server can't be reached in time")?;
         put(notes, line.as_slice())?;
@@ -101,7 +111,9 @@ fn end_whole<K: Sink, N: Sink>(
     course: &Course,
     out: &mut K,
     notes: &mut N,
-) -> Result<Status, Fault> {
+) -> Result<Status, Fault>
+    ensures { IfOk result (λ status. (status ≡ statuses.Done) ⊎ (status ≡ statuses.Partial)) }
+{
     let list = course.browser.shown();
     put_table(alloc, out, &course.wording, list.as_slice())?;
     put_full(alloc, request.style, course, notes)?;
@@ -111,20 +123,27 @@ fn end_whole<K: Sink, N: Sink>(
     Ok(Status::Done)
 }
 
-// Writes why the command ends.
-fn end_as<N: Sink>(
+// Writes that the question is refused.
+fn end_refused<N: Sink>(
     alloc: Global,
     request: &Request<'_>,
-    status: Status,
-    rcode: Option<u8>,
+    rcode: u8,
     notes: &mut N,
-) -> Result<Status, Fault> {
-    let line = match rcode {
-        Some(rcode) => refused_line(alloc, request.style, rcode, &request.domain)?,
-        None => fault_line(alloc, request.style, "the server broke a rule of DSO")?,
-    };
+) -> Result<Status, Fault>
+    ensures { IfOk result (λ status. status ≡ statuses.Refused) }
+{
+    let line = refused_line(alloc, request.style, rcode, &request.domain)?;
     put(notes, line.as_slice())?;
-    Ok(status)
+    Ok(Status::Refused)
+}
+
+// Writes that the server broke a rule.
+fn end_broken<N: Sink>(alloc: Global, request: &Request<'_>, notes: &mut N) -> Result<Status, Fault>
+    ensures { IfOk result (λ status. status ≡ statuses.Broken) }
+{
+    let line = fault_line(alloc, request.style, "the server broke a rule of DSO")?;
+    put(notes, line.as_slice())?;
+    Ok(Status::Broken)
 }
 
 // What is written of a connection's end, and what comes next.
@@ -136,22 +155,19 @@ fn behind<K: Sink, N: Sink>(
     out: &mut K,
     notes: &mut N,
 ) -> Result<Next, Fault>
-    ensures { IfOk result (λ next. GoesOnInTime request.now course.new next) }
+    requires { IsEndingOf request.now ending }
+    ensures next { IfOk result (FollowsSo request.now course.old course.new ending) }
+    ensures status { IfOk result (IsNextOf request.now) }
+    ensures time { IfOk result (λ next. GoesOnInTime request.now course.new next) }
 {
     renew(course);
-    let (pause, what) = match ending {
+    let (least, what) = match ending {
         Ending::Whole => return Ok(Next::End(end_whole(alloc, request, course, out, notes)?)),
         Ending::TimedOut => return Ok(Next::End(end_late(alloc, request, course, out, notes)?)),
         Ending::Refused(rcode) => {
-            return Ok(Next::End(end_as(alloc, request, Status::Refused, Some(rcode), notes)?));
+            return Ok(Next::End(end_refused(alloc, request, rcode, notes)?));
         }
-        Ending::Broken => return Ok(Next::End(end_as(
-            alloc,
-            request,
-            Status::Broken,
-            None,
-            notes,
-        )?)),
+        Ending::Broken => return Ok(Next::End(end_broken(alloc, request, notes)?)),
         Ending::Gone(true) => (0, "the server closed the connection; the list is kept"),
         Ending::Gone(false) => (
             FIRST_DELAY,
@@ -160,7 +176,7 @@ fn behind<K: Sink, N: Sink>(
         Ending::Delayed(told) => (u64::from(told), "the server asks to come back later"),
         Ending::Idle => (0, "the connection was idle"),
     };
-    again(alloc, request, course, what, pause, out, notes)
+    again(alloc, request, course, what, least, out, notes)
 }
 
 // Writes what happened, and that the server is dialled again after so many milliseconds at least; or the time is over.
@@ -173,7 +189,10 @@ fn again<K: Sink, N: Sink>(
     out: &mut K,
     notes: &mut N,
 ) -> Result<Next, Fault>
-    ensures { IfOk result (λ next. GoesOnInTime request.now course.new next) }
+    ensures next { IfOk result (λ next. next ≡ goes_on_after request.now course.new course.old.delay least) }
+    ensures status { IfOk result (IsNextOf request.now) }
+    ensures time { IfOk result (λ next. GoesOnInTime request.now course.new next) }
+    ensures delay { course.new ≡ record course.old { delay = next_delay (max course.old.delay (min least FIRST_DELAY)) } }
 {
     let pause = course.delay.max(least);
     course.delay = next_delay(course.delay.max(least.min(FIRST_DELAY)));
@@ -205,7 +224,8 @@ fn connect<O: Outside, K: Sink, N: Sink>(
     notes: &mut N,
     outside: &mut O,
 ) -> Result<Next, Fault>
-    ensures { IfOk result (λ next. GoesOnInTime request.now course.new next) }
+    ensures status { IfOk result (IsNextOf request.now) }
+    ensures time { IfOk result (λ next. GoesOnInTime request.now course.new next) }
 {
     match outside.dial(request.server) {
         Err(OpenFault::NoMemory) => Err(Fault::NoMemory),
@@ -215,10 +235,16 @@ fn connect<O: Outside, K: Sink, N: Sink>(
             again(alloc, request, course, what, FIRST_DELAY, out, notes)
         }
         Ok((line, wire)) => {
-            let ending = follow(
-                alloc, request, course, line, wire, clock, out, notes, outside,
-            )?;
-            behind(alloc, request, course, ending, out, notes)
+            let mut talk = Talk {
+                alloc,
+                line,
+                wire,
+                has_heard: false,
+            };
+            let ending = follow(request, course, &mut talk, clock, out, notes);
+            outside.back_line(talk.line);
+            outside.back_wire(talk.wire);
+            behind(alloc, request, course, ending?, out, notes)
         }
     }
 }
@@ -232,29 +258,24 @@ fn keep(alloc: Global, course: &mut Course) -> Result<(), NoMemory> {
     Ok(())
 }
 
-// A connection was made: it is followed, and its ends are handed back.
-fn follow<O: Outside, K: Sink, N: Sink>(
-    alloc: Global,
+// A connection was made: it is followed until it ends.
+fn follow<L: Line, W: Wire, C: Clock, K: Sink, N: Sink>(
     request: &Request<'_>,
     course: &mut Course,
-    mut line: O::Line,
-    mut wire: O::Wire,
-    clock: &mut O::Clock,
+    talk: &mut Talk<L, W>,
+    clock: &mut C,
     out: &mut K,
     notes: &mut N,
-    outside: &mut O,
-) -> Result<Ending, Fault> {
+) -> Result<Ending, Fault>
+    ensures { IfOk result (IsEndingOf request.now) }
+{
     course.now = clock.now().min(MAX_MOMENT);
     course.connected = course.now;
     course.count = 0;
     course.browser.connected(course.now)?;
-    let ending = converse(
-        alloc, request, course, &mut line, &mut wire, clock, out, notes,
-    );
-    let kept = keep(alloc, course);
+    let ending = converse(request, course, talk, clock, out, notes);
+    let kept = keep(talk.alloc, course);
     course.browser.cut();
-    outside.back_line(line);
-    outside.back_wire(wire);
     kept?;
     ending
 }
@@ -268,7 +289,9 @@ fn dial_on<O: Outside, K: Sink, N: Sink>(
     out: &mut K,
     notes: &mut N,
     outside: &mut O,
-) -> Result<Status, Fault> {
+) -> Result<Status, Fault>
+    ensures { IfOk result (IsStatusOf request.now) }
+{
     let mut left = u64::MAX;
     'connections: while left > 0 {
         match connect(alloc, request, course, clock, out, notes, outside)? {
@@ -280,7 +303,7 @@ fn dial_on<O: Outside, K: Sink, N: Sink>(
         }
         left -= 1;
     }
-    Ok(Status::Done)
+    Ok(Status::Unreached)
 }
 
 // The machine and what is kept beside it.
@@ -323,7 +346,9 @@ fn run<O: Outside, K: Sink, N: Sink>(
     out: &mut K,
     notes: &mut N,
     outside: &mut O,
-) -> Result<Status, Fault> {
+) -> Result<Status, Fault>
+    ensures { IfOk result (IsStatusOf request.now) }
+{
     let now = clock.now().min(MAX_MOMENT);
     let mut course = course_of(alloc, request, home, now)?;
     dial_on(alloc, request, &mut course, clock, out, notes, outside)
@@ -338,7 +363,9 @@ pub fn browse<O: Outside, K: Sink, N: Sink>(
     out: &mut K,
     notes: &mut N,
     outside: &mut O,
-) -> Status {
+) -> Status
+    ensures { IsStatusOf request.now result }
+{
     let mut clock = outside.clock();
     let status = run(alloc, request, home, &mut clock, out, notes, outside);
     outside.back_clock(clock);

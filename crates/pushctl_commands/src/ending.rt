@@ -1,5 +1,8 @@
 //! How a conversation ends, and what comes of it.
 
+ghost use Rattle.std.specs.Prelude.{◌≡◌};
+ghost use Rattle.pushctl_commands.specs.Statuses.{ending_of, ending_told};
+
 use dsosession::session::CloseReason;
 
 /// How a conversation ends.
@@ -21,8 +24,10 @@ pub(crate) enum Ending {
     Refused(u8),
 }
 
-/// What comes of a connection that the client has closed.
-pub(crate) fn ending_of(reason: CloseReason) -> Ending {
+// What comes of a connection that the client has closed.
+fn ending_of(reason: CloseReason) -> Ending
+    ensures { result ≡ ending_of reason }
+{
     match reason {
         CloseReason::Delay(delay, _) => Ending::Delayed(delay),
         CloseReason::Idle => Ending::Idle,
@@ -37,5 +42,24 @@ pub(crate) fn ending_of(reason: CloseReason) -> Ending {
         | CloseReason::Unknown(_)
         | CloseReason::Interval(_)
         | CloseReason::Kept(_) => Ending::Broken,
+    }
+}
+
+/// How a conversation ends, if it does: its question is refused, the client has closed, the list is whole and written once,
+/// or the time is over.
+pub(crate) fn ending_told(
+    refused: Option<u8>,
+    closed: Option<CloseReason>,
+    is_whole: bool,
+    is_late: bool,
+) -> Option<Ending>
+    ensures { result ≡ ending_told refused closed is_whole is_late }
+{
+    match (refused, closed) {
+        (Some(rcode), _) => Some(Ending::Refused(rcode)),
+        (None, Some(reason)) => Some(ending_of(reason)),
+        (None, None) if is_whole => Some(Ending::Whole),
+        (None, None) if is_late => Some(Ending::TimedOut),
+        (None, None) => None,
     }
 }

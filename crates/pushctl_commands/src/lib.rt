@@ -8,14 +8,15 @@
 //! **Flow.** `browse` (`dialling.rt`) dials over an `Outside`, and dials again after a delay that grows. Over each
 //! connection `converse` sends what the `Browser` has to say, reads, and hands it the octets. Each change becomes a
 //! line (`wording.rt`, `rows.rt`, `writing.rt`), for people, as fields or as JSON. Where it is written once, the list
-//! is a table at the end. What is said beside the list is in `notes.rt`. `ending.rt` says what comes of a connection
-//! that the client closed.
+//! is a table at the end. What is said beside the list is in `notes.rt`. `ending.rt` says how a conversation ends.
 //!
 //! **Begin** with `request.rt` and `status.rt`, then `dialling.rt`, then `converse.rt`.
 //!
-//! **Change.** Little is proved here, so tests have to show that lines are right. The specs say the exit statuses, and
-//! that no late dial is made: both stay. The fields, the members of JSON and the statuses are what scripts of users
-//! read. A server that broke a rule isn't dialled again (RFC 8490, 6.6.3). Notes for people may be worded anew.
+//! **Change.** Little is proved here of lines, so tests have to show that they are right (`pushctl_vectors`).
+//! `specs/Statuses` says which status follows which ending, and after which delay the server is dialled again.
+//! `specs/Lateness` says that no late dial is made. Both stay. The fields, the members of JSON and the statuses are what
+//! scripts of users read. A server that broke a rule isn't dialled again (RFC 8490, 6.6.3). Notes for people may be
+//! worded anew.
 //!
 //! **Stand on it**: `pushctl`, which makes a `Request` of its words and calls `browse`.
 #![tactic(auto)]

@@ -1,7 +1,7 @@
 //! How `pushctl` ends.
 
 ghost use Rattle.std.specs.Prelude.{◌≡◌};
-ghost use Rattle.pushctl_commands.specs.Statuses.{code_of};
+ghost use Rattle.pushctl_commands.specs.Statuses.{code_of, where_starved};
 
 /// How a command ends, each with its exit status.
 #[derive(Clone, Copy)]
@@ -38,6 +38,16 @@ impl Status {
             Status::Refused => 7,
             Status::Partial => 8,
             Status::Broken => 9,
+        }
+    }
+
+    /// The same, where a sink wanted memory for a line, or not: then the output isn't at fault.
+    pub fn where_starved(self, starved: bool) -> Status
+        ensures { result ≡ where_starved starved self }
+    {
+        match (starved, self) {
+            (true, Status::Output) => Status::NoMemory,
+            (_, status) => status,
         }
     }
 }
