@@ -1,2 +1,4 @@
 pub mod Knowing
+pub mod SameServices
 pub mod Standing
+pub mod Telling

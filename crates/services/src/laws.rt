@@ -1,15 +1,25 @@
-//! A law of lists of services, and examples.
+//! Laws of lists of services, and examples.
 
 ghost use Rattle.std.specs.Prelude.{◌≡◌, [], ◌∷◌, ◌++◌, codes, None, Some};
 ghost use Rattle.push_base.specs.Hexadecimal.{hex};
 ghost use Rattle.dnsname.specs.Text.{name};
-ghost use Rattle.services.specs.Laws.{NeedsStand};
+ghost use Rattle.services.specs.Laws.{NeedsStand, SameIsSilent, ToldAgain};
 ghost use Rattle.services.specs.Services.{changes, instances_in, needs, server_in, whole};
 ghost use Rattle.services.specs.declared.service.Change.TheVariants.{Came, Differs, Went};
 
 /// What a list asks for determines it: where the same is known of that, the lists are one, and so is what they ask for.
 pub fn needs_stand()
     ensures { NeedsStand }
+{}
+
+/// Who holds a list and makes the changes that are told holds the new one: of each instance the same, to the letter.
+pub fn told_again()
+    ensures { ToldAgain }
+{}
+
+/// From a list to itself nothing is told.
+pub fn same_is_silent()
+    ensures { SameIsSilent }
 {}
 
 /// Examples of what records make, and of changes.
