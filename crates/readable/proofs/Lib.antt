@@ -1,1 +1,4 @@
 pub mod Showing
+pub mod Octets
+pub mod Harmless
+pub mod TypedAgain

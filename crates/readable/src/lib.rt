@@ -23,6 +23,7 @@
 
 mod address;
 mod characters;
+pub mod laws;
 mod naming;
 mod typing;
 
